@@ -1,0 +1,70 @@
+// The distance layer: units, the fix, and how far an inner fix of a span is from the chord of its two ends.
+ghost use mathlib.Core.Path.{_≡_};
+ghost use Prim.Native.Nat.{_+_, _≤_};
+ghost use lib.IntN.{pos, _-ℤ_};
+ghost use Rattle.distance.specs.Fix.{fixOf};
+ghost use Rattle.distance.specs.Distance.{N, deviation, allowance, within};
+ghost use Rattle.distance.specs.Span.{Chord, Span};
+
+// A time on the fixes' own clock. Times and lengths have types of their own, so that neither can stand for the other.
+pub struct Seconds(pub u32);
+
+// The seconds from one fix to a later one of the same record, which checked records keep to 65,535.
+pub struct Duration(pub u16);
+
+// A coordinate of a place.
+pub struct Centimetres(pub i16);
+
+// A length that isn't negative, in centimetres: how far a dropped fix may be from its chord.
+pub struct Tolerance(pub u16);
+
+pub struct Fix {
+    pub t: Seconds,
+    pub x: Centimetres,
+    pub y: Centimetres,
+}
+
+fn elapsed(a: Seconds, b: Seconds) -> Duration
+    requires { ⌜ (a .0 ≤ b .0) × (b .0 ≤ a .0 + 65535) ⌝ }
+    ensures { λ r. ⌜ pos (r .0) ≡ pos (b .0) -ℤ pos (a .0) ⌝ }
+{
+    Duration((b.0 - a.0) as u16)
+}
+
+// N of one axis: d is the whole span's time, s the time from its start to m.
+fn offset(i: Centimetres, m: Centimetres, j: Centimetres, d: Duration, s: Duration) -> i64
+    ensures { λ r. ⌜ r ≡ N (i .0) (m .0) (j .0) (pos (d .0)) (pos (s .0)) ⌝ }
+{
+    let start = i.0 as i64;
+    ((m.0 as i64) - start) * (d.0 as i64) - ((j.0 as i64) - start) * (s.0 as i64)
+}
+
+// Nx² + Ny² of the inner fix m of the span from i to j. It is below 2⁶³, so the signed squares and their sum fit.
+pub fn deviation(i: Fix, m: Fix, j: Fix) -> u64
+    requires { ⌜ Span 16000 (fixOf i) (fixOf m) (fixOf j) ⌝ }
+    ensures { λ r. ⌜ r ≡ deviation (fixOf i) (fixOf m) (fixOf j) ⌝ }
+{
+    let d = elapsed(i.t, j.t);
+    let s = elapsed(i.t, m.t);
+    let nx = offset(i.x, m.x, j.x, d, s);
+    let ny = offset(i.y, m.y, j.y, d, s);
+    (nx * nx + ny * ny) as u64
+}
+
+// e²·D² of the span from i to j.
+pub fn allowance(e: Tolerance, i: Fix, j: Fix) -> u64
+    requires { ⌜ Chord (fixOf i) (fixOf j) ⌝ }
+    ensures { λ r. ⌜ r ≡ allowance (e .0) (fixOf i) (fixOf j) ⌝ }
+{
+    let d = elapsed(i.t, j.t);
+    let reach = (e.0 as u64) * (d.0 as u64);
+    reach * reach
+}
+
+// Is the inner fix m at most e from where the chord from i to j has the cart at that time?
+pub fn within(e: Tolerance, i: Fix, m: Fix, j: Fix) -> bool
+    requires { ⌜ Span 16000 (fixOf i) (fixOf m) (fixOf j) ⌝ }
+    ensures { λ r. ⌜ r ≡ within (e .0) (fixOf i) (fixOf m) (fixOf j) ⌝ }
+{
+    deviation(i, m, j) <= allowance(e, i, j)
+}
