@@ -1,0 +1,215 @@
+-- WHAT IS TURNED AWAY, IN CHECKING ORDER. Document 01: "A refusal is its number and nothing more [..]; it is given if its sentence holds and no
+-- earlier check of that operation fails, and never otherwise." (`first-exactly` of Laws/First.antt.)
+use mathlib.Core.Bool.{Bool, true, false, cond, not, _||_, _&&_}
+use mathlib.Core.List.{List, [], _∷_}
+use mathlib.Core.Option.{Option, some, none}
+use Prim.Native.Nat.{ℕ, _+_, _*_}
+use lib.Dec.{ltb, leb, eqb}
+use lib.ListN.{length}
+use lib.IntN.{ℤ, pos, negℤ}
+use lib.Signed.{ltZ}
+use Rattle.distance.specs.Fix.{Fix}
+use Rattle.distance.specs.Distance.{seconds}
+use Rattle.distance.specs.Box.{Box}
+use Rattle.record.specs.Format.{Kind, never, length-field, kind-field, mark-field, count-field, record-length, fixes}
+
+-- ---- what a call is handed. Of the last part a call fills in what it takes; no check that it makes looks at the rest (`reading-alone` of Laws/First.antt).
+pub record Given : Type 0 where
+  -- "The asked tolerance"
+  pub tolerance : ℕ
+  -- the asked moment, "a second s (32 bits) and m thousandths"
+  pub second : ℕ
+  pub thousandths : ℕ
+  -- "a window of whole seconds"
+  pub start : ℕ
+  pub end : ℕ
+  pub box : Box
+  -- how many bytes "The output has"
+  pub output : ℕ
+
+pub record Asked : Type 0 where
+  -- how many bytes are lent
+  pub lent : ℕ
+  -- the record's head, or what a list of fixes has of it
+  pub length-says : ℕ
+  pub kind : ℕ
+  pub mark : ℕ
+  pub count : ℕ
+  pub trail-fixes : List Fix
+  pub given : Given
+
+-- ---- the sentences' parts
+-- "outside −16,000 to 16,000"
+abbrev pub outside : (limit : ℕ) → ℤ → Bool
+outside limit z = ltZ z (negℤ (pos limit)) || ltZ (pos limit) z
+
+abbrev pub fix-outside : (limit : ℕ) → Fix → Bool
+fix-outside limit f = outside limit (f .x) || outside limit (f .y)
+
+-- "Some x or y is outside"
+unfoldable pub some-outside : (limit : ℕ) → List Fix → Bool
+some-outside limit [] = false
+some-outside limit (f ∷ l) = fix-outside limit f || some-outside limit l
+
+-- "Some fix's time isn't later than the time before it", from a fix of time t on
+unfoldable pub some-early-after : (t : ℕ) → List Fix → Bool
+some-early-after t [] = false
+some-early-after t (f ∷ l) = leb (f .t) t || some-early-after (f .t) l
+
+unfoldable pub some-early : List Fix → Bool
+some-early [] = false
+some-early (f ∷ l) = some-early-after (f .t) l
+
+-- what a test says of the first and the last fix; check 3 has seen to it that there are some
+unfoldable pub last-fix : Fix → List Fix → Fix
+last-fix f [] = f
+last-fix f (g ∷ l) = last-fix g l
+
+unfoldable pub of-ends : (Fix → Fix → Bool) → List Fix → Bool
+of-ends test [] = false
+of-ends test (f ∷ l) = test f (last-fix f l)
+
+-- "The last time less the first is above 65,535."
+abbrev pub too-long : Fix → Fix → Bool
+too-long f l = ltZ (pos 65535) (seconds f l)
+
+-- "The asked moment is before the first fix or after the last", s + m/1000 seconds.
+abbrev pub moment-outside : (s m : ℕ) → Fix → Fix → Bool
+moment-outside s m f l = ltb (1000 * s + m) (1000 * f .t) || ltb (1000 * l .t) (1000 * s + m)
+
+-- "either is outside the trail's times"
+abbrev pub second-outside : ℕ → Fix → Fix → Bool
+second-outside s f l = ltb s (f .t) || ltb (l .t) s
+
+-- ---- the fifteen checks, and their numbers
+pub data Check : Type 0 where
+  few-bytes : Check
+  other-kind : Check
+  bad-count : Check
+  bad-length : Check
+  short-record : Check
+  bad-mark : Check
+  misplaced : Check
+  unordered : Check
+  long-span : Check
+  high-tolerance : Check
+  bad-thousandths : Check
+  bad-moment : Check
+  bad-window : Check
+  bad-box : Check
+  short-output : Check
+
+abbrev pub number : Check → ℕ
+number few-bytes = 1
+number other-kind = 2
+number bad-count = 3
+number bad-length = 4
+number short-record = 5
+number bad-mark = 6
+number misplaced = 7
+number unordered = 8
+number long-span = 9
+number high-tolerance = 10
+number bad-thousandths = 11
+number bad-moment = 12
+number bad-window = 13
+number bad-box = 14
+number short-output = 15
+
+-- ---- the sentences, each as document 01 has it
+unfoldable pub sentence : Kind → Asked → Check → Bool
+-- 1. "The lent bytes are fewer than 10."
+sentence K a few-bytes = ltb (a .lent) 10
+-- 2. "The kind isn't 1."
+sentence K a other-kind = not (eqb (a .kind) (K .code))
+-- 3. "The count is 0 or above 4,096."
+sentence K a bad-count = eqb (a .count) 0 || ltb 4096 (a .count)
+-- 4. "The length field isn't 10 + 8 times the count."
+sentence K a bad-length = not (eqb (a .length-says) (record-length K (a .count)))
+-- 5. "The lent bytes are fewer than the length field."
+sentence K a short-record = ltb (a .lent) (a .length-says)
+-- 6. "The mark is above 32,000 and isn't 65,535."
+sentence K a bad-mark = ltb (K .top) (a .mark) && not (eqb (a .mark) never)
+-- 7. "Some x or y is outside −16,000 to 16,000."
+sentence K a misplaced = some-outside (K .limit) (a .trail-fixes)
+-- 8. "Some fix's time isn't later than the time before it."
+sentence K a unordered = some-early (a .trail-fixes)
+-- 9. "The last time less the first is above 65,535."
+sentence K a long-span = of-ends too-long (a .trail-fixes)
+-- 10. "The asked tolerance is above 32,000."
+sentence K a high-tolerance = ltb (K .top) (a .given .tolerance)
+-- 11. "The asked thousandths are above 999."
+sentence K a bad-thousandths = ltb 999 (a .given .thousandths)
+-- 12. "The asked moment is before the first fix or after the last."
+sentence K a bad-moment = of-ends (moment-outside (a .given .second) (a .given .thousandths)) (a .trail-fixes)
+-- 13. "The window's end is before its start, or either is outside the trail's times."
+sentence K a bad-window =
+    ltb (a .given .end) (a .given .start)
+    || (of-ends (second-outside (a .given .start)) (a .trail-fixes) || of-ends (second-outside (a .given .end)) (a .trail-fixes))
+-- 14. "A box edge is outside −16,000 to 16,000, or a low edge is above its high edge."
+sentence K a bad-box =
+    let b = a .given .box in
+    outside (K .limit) (b .x-low)
+    || (outside (K .limit) (b .x-high) || (outside (K .limit) (b .y-low) || (outside (K .limit) (b .y-high) || (ltZ (b .x-high) (b .x-low) || ltZ (b .y-high) (b .y-low)))))
+-- 15. "The output has fewer than 10 + 8n bytes."
+sentence K a short-output = ltb (a .given .output) (record-length K (a .count))
+
+-- ---- THE ORDER
+abbrev pub order : List Check
+order =
+    few-bytes ∷ other-kind ∷ bad-count ∷ bad-length ∷ short-record ∷ bad-mark ∷ misplaced ∷ unordered ∷ long-span
+    ∷ high-tolerance ∷ bad-thousandths ∷ bad-moment ∷ bad-window ∷ bad-box ∷ short-output ∷ []
+
+-- "Aging makes checks 1 to 10, aging by days 1 to 9, the place question 1 to 9, 11, 12, the crossing 1 to 9, 13, 14, the reader and the listing 1 to
+-- 9, the writer 3, 7, 8, 9, 15."
+pub data Operation : Type 0 where
+  reading : Operation
+  writing : Operation
+  aging : Operation
+  aging-by-days : Operation
+  placing : Operation
+  crossing : Operation
+
+abbrev pub to-nine : List ℕ → List ℕ
+to-nine l = 1 ∷ 2 ∷ 3 ∷ 4 ∷ 5 ∷ 6 ∷ 7 ∷ 8 ∷ 9 ∷ l
+
+abbrev pub makes : Operation → List ℕ
+makes reading = to-nine []
+makes writing = 3 ∷ 7 ∷ 8 ∷ 9 ∷ 15 ∷ []
+makes aging = to-nine (10 ∷ [])
+makes aging-by-days = to-nine []
+makes placing = to-nine (11 ∷ 12 ∷ [])
+makes crossing = to-nine (13 ∷ 14 ∷ [])
+
+abbrev pub member : ℕ → List ℕ → Bool
+member n [] = false
+member n (m ∷ l) = eqb n m || member n l
+
+abbrev pub selected : List ℕ → List Check → List Check
+selected s [] = []
+selected s (c ∷ l) = cond (member (number c) s) (c ∷ selected s l) (selected s l)
+
+-- An operation's checks: its selection from the order.
+abbrev pub checks : Operation → List Check
+checks o = selected (makes o) order
+
+-- The number of the first of these checks whose sentence holds.
+unfoldable pub first : (Check → Bool) → List Check → Option ℕ
+first says [] = none
+first says (c ∷ l) = cond (says c) (some (number c)) (first says l)
+
+-- THE REFUSAL of an operation: none, or its number.
+abbrev pub refusal : Kind → Operation → Asked → Option ℕ
+refusal K o a = first (sentence K a) (checks o)
+
+-- ---- what is asked of lent bytes, and of a list of fixes that is to be written
+abbrev pub asked-of : Kind → List ℕ → Given → Asked
+asked-of K b g = record {
+  lent = length b;
+  length-says = length-field b;
+  kind = kind-field b;
+  mark = mark-field b;
+  count = count-field b;
+  trail-fixes = fixes K b;
+  given = g;
+}

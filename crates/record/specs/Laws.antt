@@ -1,0 +1,5 @@
+-- What is proved of the definitions, each law once.
+pub mod Each
+pub mod First
+pub mod Numbers
+pub mod Scan
