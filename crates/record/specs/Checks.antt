@@ -1,5 +1,6 @@
 -- WHAT IS TURNED AWAY, IN CHECKING ORDER. Document 01: "A refusal is its number and nothing more [..]; it is given if its sentence holds and no
 -- earlier check of that operation fails, and never otherwise." (`first-exactly` of Laws/First.antt.)
+use mathlib.Core.Path.{_≡_}
 use mathlib.Core.Bool.{Bool, true, false, cond, not, _||_, _&&_}
 use mathlib.Core.List.{List, [], _∷_}
 use mathlib.Core.Option.{Option, some, none}
@@ -157,8 +158,15 @@ sentence K a short-output = ltb (a .given .output) (record-length K (a .count))
 -- ---- THE ORDER
 abbrev pub order : List Check
 order =
-    few-bytes ∷ other-kind ∷ bad-count ∷ bad-length ∷ short-record ∷ bad-mark ∷ misplaced ∷ unordered ∷ long-span
-    ∷ high-tolerance ∷ bad-thousandths ∷ bad-moment ∷ bad-window ∷ bad-box ∷ short-output ∷ []
+    few-bytes ∷ other-kind ∷ bad-count ∷ bad-length ∷ short-record ∷ bad-mark ∷ misplaced ∷ unordered ∷ long-span ∷ high-tolerance
+    ∷ bad-thousandths ∷ bad-moment ∷ bad-window ∷ bad-box ∷ short-output ∷ []
+
+-- Those of a record's head, and those of its fixes.
+abbrev pub head-checks : List Check
+head-checks = few-bytes ∷ other-kind ∷ bad-count ∷ bad-length ∷ short-record ∷ bad-mark ∷ []
+
+abbrev pub fix-checks : List Check
+fix-checks = misplaced ∷ unordered ∷ long-span ∷ []
 
 -- "Aging makes checks 1 to 10, aging by days 1 to 9, the place question 1 to 9, 11, 12, the crossing 1 to 9, 13, 14, the reader and the listing 1 to
 -- 9, the writer 3, 7, 8, 9, 15."
@@ -213,3 +221,14 @@ asked-of K b g = record {
   trail-fixes = fixes K b;
   given = g;
 }
+
+-- A reader takes nothing besides the bytes.
+abbrev pub nothing : Given
+nothing = record { tolerance = 0; second = 0; thousandths = 0; start = 0; end = 0; box = record { x-low = pos 0; x-high = pos 0; y-low = pos 0; y-high = pos 0 }; output = 0 }
+
+abbrev pub read-refusal : Kind → List ℕ → Option ℕ
+read-refusal K b = refusal K reading (asked-of K b nothing)
+
+-- "A record is accepted if none of the reader's checks turns it away."
+pub record IsAccepted (K : Kind) (b : List ℕ) : Type 0 where
+  pub accepted : read-refusal K b ≡ none

@@ -3,3 +3,4 @@ pub mod Each
 pub mod First
 pub mod Numbers
 pub mod Scan
+pub mod Head

@@ -11,7 +11,7 @@ use native.Mathlib.Decide.{decLe}
 use native.Mathlib.Omega.{arith}
 use lib.Dec.{T, leb→le, le→leb}
 use lib.IntN.{ℤ, +ℤ-invr, *ℤ-zero, pos, negsuc, _+ℤ_, _-ℤ_, _*ℤ_}
-use lib.Signed.{_≤ℤ_, _<ℤ_, leZ-yes, ltZ, ltZ-yes, ltZ-no}
+use lib.Signed.{_≤ℤ_, _<ℤ_, leZ-yes, ltZ, ltZ-yes, ltZ-no, clashℤ}
 use Rattle.distance.specs.Integers.Differences.{diffs, split}
 use Rattle.distance.specs.Integers.Ring.{ring, quotes, lit, vars}
 
@@ -59,6 +59,21 @@ compared x y = go (ltZ x y) (λ t. t) (λ t. t)
     go : (c : Bool) → (T c → T (ltZ x y)) → (T (not c) → T (not (ltZ x y))) → Compared x y
     go true f g = at-most (<ℤ-≤ℤ (ltZ-yes (f tt)))
     go false f g = at-least (ltZ-no (g tt))
+
+-- the test < of the library, decided
+T-true : (b : Bool) → T b → b ≡ true
+T-true true t = refl
+T-true false t = absurd t
+
+pub ltZ-true : {x y : ℤ} → x <ℤ y → ltZ x y ≡ true
+ltZ-true h = T-true _ (h .lt)
+
+pub ltZ-false : {x y : ℤ} → y ≤ℤ x → ltZ x y ≡ false
+ltZ-false {x} {y} h = go (ltZ x y) (λ t. ltZ-yes t)
+  where
+    go : (b : Bool) → (T b → x <ℤ y) → b ≡ false
+    go true f = clashℤ (f tt) h
+    go false f = refl
 
 pub pos-le : (a b : ℕ) → pos a ≤ℤ pos b ↔ a ≤ b
 pos-le a b = (λ h. leb→le a b (h .le), λ h. leZ-yes (le→leb a b h))

@@ -7,7 +7,10 @@ use mathlib.Core.Option.{Option, some, none}
 use Prim.Native.Nat.{ℕ}
 use native.Mathlib.Omega.{arith}
 use Rattle.record.specs.Format.{Kind}
-use Rattle.record.specs.Checks.{Check, Given, number, first, sentence, Asked, asked-of, refusal, reading}
+use Rattle.record.specs.Checks.{Check, Given, number, first, sentence, Asked, asked-of, refusal, reading, read-refusal}
+
+pub some-none : {k : ℕ} → some k ≡ none → ⊥
+some-none e = let z : _≡_ {A = ℕ} 0 1 = cc in omega arith
 
 module _ (says : Check → Bool) where
   -- a sentence that holds ends the search, and one that doesn't hands it on
@@ -37,13 +40,7 @@ module _ (says : Check → Bool) where
   -- .. and never otherwise.
   first-holds : (k : ℕ) (l : List Check) → first says l ≡ some k → FirstHolds k l
   unfolding first
-  first-holds k [] e = absurd (never e)
-    where
-      never : none ≡ some k → ⊥
-      never e = let z : _≡_ {A = ℕ} 0 1 = cc in absurd (zero-one z)
-        where
-          zero-one : _≡_ {A = ℕ} 0 1 → ⊥
-          zero-one z = omega arith
+  first-holds k [] e = absurd (some-none (sym e))
   first-holds k (c ∷ l) e = go (says c) refl e (first-holds k l)
     where
       go : (b : Bool) → says c ≡ b → cond b (some (number c)) (first says l) ≡ some k → (first says l ≡ some k → FirstHolds k l) → FirstHolds k (c ∷ l)
@@ -52,3 +49,37 @@ module _ (says : Check → Bool) where
 
   pub first-exactly : (k : ℕ) (l : List Check) → first says l ≡ some k ↔ FirstHolds k l
   first-exactly k l = (first-holds k l, holds-first)
+
+  -- checks in two parts: the second is reached if the first turns nothing away
+  pub none-first : (l m : List Check) → first says l ≡ none → first says (l ++ m) ≡ first says m
+  unfolding first
+  none-first [] m h = refl
+  none-first (c ∷ l) m h = go (says c) h (none-first l m)
+    where
+      go : (b : Bool) → cond b (some (number c)) (first says l) ≡ none → (first says l ≡ none → first says (l ++ m) ≡ first says m) → cond b (some (number c)) (first says (l ++ m)) ≡ first says m
+      go true h r = absurd (some-none h)
+      go false h r = r h
+
+  pub some-first : (l m : List Check) (k : ℕ) → first says l ≡ some k → first says (l ++ m) ≡ some k
+  unfolding first
+  some-first [] m k h = absurd (some-none (sym h))
+  some-first (c ∷ l) m k h = go (says c) h (some-first l m k)
+    where
+      go : (b : Bool) → cond b (some (number c)) (first says l) ≡ some k → (first says l ≡ some k → first says (l ++ m) ≡ some k) → cond b (some (number c)) (first says (l ++ m)) ≡ some k
+      go true h r = h
+      go false h r = r h
+
+  -- nothing is turned away exactly if no sentence holds
+  pub none-holds : (l : List Check) → first says l ≡ none → NoneHolds l
+  unfolding first
+  none-holds [] h = no-check
+  none-holds (c ∷ l) h = go (says c) refl h (none-holds l)
+    where
+      go : (b : Bool) → says c ≡ b → cond b (some (number c)) (first says l) ≡ none → (first says l ≡ none → NoneHolds l) → NoneHolds (c ∷ l)
+      go true e h r = absurd (some-none h)
+      go false e h r = and-not e (r h)
+
+-- what a reader says does not hang on the rest of what a call is handed
+pub reading-alone : (K : Kind) (b : List ℕ) (g : Given) → refusal K reading (asked-of K b g) ≡ read-refusal K b
+unfolding first sentence
+reading-alone K b g = refl
