@@ -4,3 +4,4 @@ pub mod First
 pub mod Numbers
 pub mod Scan
 pub mod Head
+pub mod Reading

@@ -10,7 +10,8 @@ ghost use Rattle.distance.specs.Fix.{Fix as Plain, fixOf};
 ghost use Rattle.record.specs.Bytes.{number-at, signed};
 ghost use Rattle.record.specs.Format.{trail, count-field, fix-at, each};
 ghost use Rattle.record.specs.Checks.{Asked, sentence, first, asked-of, nothing, head-checks, fix-checks, read-refusal, outside, fix-outside};
-ghost use Rattle.record.specs.Answers.{refused};
+ghost use Rattle.record.specs.Reading.{stands, yields, moves};
+ghost use Rattle.record.specs.Answers.{refused, found};
 ghost use Rattle.record.specs.Laws.Scan.{Scanned};
 
 // Whether lent bytes begin with a record: accepted, or the number of the first check that turns them away.
@@ -55,7 +56,7 @@ fn coordinate(n: u32) -> Centimetres
 
 // The fix at position k of a record whose bytes reach that far.
 pub fn fix_at(b: &[u8], k: usize) -> Fix
-    requires { ⌜ (k < 4096) × (18 + 8 * k ≤ length (now b)) ⌝ }
+    requires { ⌜ 18 + 8 * k ≤ length (now b) ⌝ }
     ensures { λ r. ⌜ fixOf r ≡ fix-at trail (now (b .entry)) k ⌝ }
 {
     let at = 10 + 8 * k;
@@ -173,7 +174,7 @@ fn head_says(b: &[u8]) -> Checked
 // How many fixes the record's head says there are.
 fn count_at(b: &[u8]) -> usize
     requires { ⌜ 10 ≤ length (now b) ⌝ }
-    ensures { λ r. ⌜ r ≡ count-field (now (b .entry)) ⌝ }
+    ensures { λ r. ⌜ (r ≡ count-field (now (b .entry))) × (r < 65536) ⌝ }
 {
     two_at(b, 8) as usize
 }
@@ -201,4 +202,43 @@ pub fn check(b: &[u8]) -> Checked
         Checked::Refused(k) => Checked::Refused(k),
         Checked::Accepted => scan_says(scan_all(b, count_at(b))),
     }
+}
+
+// What a reader yields.
+pub enum Step {
+    Found(Fix),
+    NoneLeft,
+}
+
+// Whether a fix stands at position k of these bytes, whoever made them and the position.
+fn stands(b: &[u8], k: usize) -> bool
+    ensures { λ r. ⌜ r ≡ stands trail (now (b .entry)) k ⌝ }
+{
+    if b.len() < 18 {
+        return false;
+    }
+    if count_at(b) <= k {
+        return false;
+    }
+    18 + 8 * k <= b.len()
+}
+
+// The fix that a reader at position k yields, or that none is left.
+pub fn read_at(b: &[u8], k: usize) -> Step
+    ensures { λ r. ⌜ found r ≡ yields trail (now (b .entry)) k ⌝ }
+{
+    if stands(b, k) {
+        return Step::Found(fix_at(b, k));
+    }
+    Step::NoneLeft
+}
+
+// Where a reader stands after that.
+pub fn read_on(b: &[u8], k: usize) -> usize
+    ensures { λ r. ⌜ r ≡ moves trail (now (b .entry)) k ⌝ }
+{
+    if stands(b, k) {
+        return k + 1;
+    }
+    k
 }

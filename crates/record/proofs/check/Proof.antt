@@ -42,7 +42,7 @@ count-at-requires c κs = head-passed (now (c .before .before .before .before .a
 scan-all-requires : tie.Need-scan-all-requires
 scan-all-requires c κs =
     let h = head-passed (now (c .before .before .before .before .before .args .b)) (head-none (c .before)) in
-    let e = c .count-at .ensures in
+    let e = c .count-at .ensures .0 in
     (omega (arith, h .some-fix), omega (arith, h .few-fixes), omega (arith, h .whole))
 
 -- src/lib.rt:202:30
@@ -60,7 +60,7 @@ returns-2 : tie.Need-returns-2
 returns-2 c =
     let b = now (c .before .before .before .before .before .before .before .args .b) in
     let none = head-none (c .before .before .before) in
-    let n = c .before .before .count-at .ensures in
+    let n = c .before .before .count-at .ensures .0 in
     c .scan-says .ensures (asked-of trail b nothing) _ _ (each-first (fix-at trail b) 0 (count-field b) (head-passed b none .some-fix)) (rw n at (c .before .scan-all .ensures))
     ∙ sym (none-first (says b) head-checks fix-checks none)
 

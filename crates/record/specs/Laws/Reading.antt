@@ -1,0 +1,62 @@
+-- The reader: where a fix stands, and that an accepted record yields its fixes in order and then none, each time.
+use mathlib.Core.Path.{_≡_, refl, sym, _∙_, ap}
+use mathlib.Core.Bool.{Bool, true, false, cond, _&&_}
+use mathlib.Core.List.{List}
+use mathlib.Core.Option.{Option, some, none}
+use Prim.Native.Nat.{ℕ, suc, _+_, _*_, _<_, _≤_}
+use native.Mathlib.Nat.{mul-le-mul-left}
+use native.Mathlib.Numerals.{add-one}
+use native.Mathlib.Omega.{arith}
+use lib.Dec.{ltb, leb}
+use lib.ListN.{length}
+use borrow.Author.Tests.{lt-ltb, le-ltb, le-leb, lt-leb, ltb-true, leb-true}
+use Rattle.record.specs.Format.{trail, count-field, fix-at}
+use Rattle.record.specs.Checks.{IsAccepted}
+use Rattle.record.specs.Reading.{stands, yields, moves}
+
+and-false : (x : Bool) → x && false ≡ false
+and-false true = refl
+and-false false = refl
+
+both : (x y : Bool) → x && y ≡ true → (x ≡ true) × (y ≡ true)
+both true y h = (refl, h)
+both false y h = absurd (let z : _≡_ {A = ℕ} 0 1 = cc in omega arith)
+
+eight : (k : ℕ) → 10 + 8 * suc k ≡ 18 + 8 * k
+eight k = omega arith
+
+module _ (b : List ℕ) (k : ℕ) where
+  pub stands-short : length b < 18 → stands trail b k ≡ false
+  unfolding stands
+  stands-short h = rw (lt-leb (10 + 8 * suc k) (length b) (omega arith)) (and-false (ltb k (count-field b)))
+
+  pub stands-past : count-field b ≤ k → stands trail b k ≡ false
+  unfolding stands
+  stands-past h = rw (le-ltb k (count-field b) h) refl
+
+  pub stands-if : k < count-field b → stands trail b k ≡ leb (18 + 8 * k) (length b)
+  unfolding stands
+  stands-if h = rw (lt-ltb k (count-field b) h, eight k) refl
+
+  pub stands-true : stands trail b k ≡ true → (k < count-field b) × (18 + 8 * k ≤ length b)
+  unfolding stands
+  stands-true h =
+      let p = both (ltb k (count-field b)) (leb (10 + 8 * suc k) (length b)) h in
+      let q = leb-true (10 + 8 * suc k) (length b) (p .1) in
+      (ltb-true k (count-field b) (p .0), omega arith)
+
+  pub yields-some : stands trail b k ≡ true → yields trail b k ≡ some (fix-at trail b k)
+  unfolding yields
+  yields-some h = rw h refl
+
+  pub yields-none : stands trail b k ≡ false → yields trail b k ≡ none
+  unfolding yields
+  yields-none h = rw h refl
+
+  pub moves-on : stands trail b k ≡ true → moves trail b k ≡ k + 1
+  unfolding moves
+  moves-on h = rw (h, add-one) refl
+
+  pub moves-not : stands trail b k ≡ false → moves trail b k ≡ k
+  unfolding moves
+  moves-not h = rw h refl
