@@ -60,14 +60,14 @@ fixes K b = each (fix-at K b) 0 (count-field b)
 
 -- ---- writing
 unfoldable pub fix-bytes : Kind → Fix → List ℕ
-fix-bytes K f = bytes-of 4 (f .t) ++ bytes-of (K .width) (unsigned (K .width) (f .x)) ++ bytes-of (K .width) (unsigned (K .width) (f .y))
+fix-bytes K f = bytes-of 4 (f .t) ++ (bytes-of (K .width) (unsigned (K .width) (f .x)) ++ bytes-of (K .width) (unsigned (K .width) (f .y)))
 
 unfoldable pub all-bytes : Kind → List Fix → List ℕ
 all-bytes K [] = []
 all-bytes K (f ∷ l) = fix-bytes K f ++ all-bytes K l
 
 unfoldable pub header-bytes : Kind → (mark n : ℕ) → List ℕ
-header-bytes K mark n = bytes-of 4 (record-length K n) ++ bytes-of 2 (K .code) ++ bytes-of 2 mark ++ bytes-of 2 n
+header-bytes K mark n = bytes-of 4 (record-length K n) ++ (bytes-of 2 (K .code) ++ (bytes-of 2 mark ++ bytes-of 2 n))
 
 -- The record of a list of fixes and a mark.
 unfoldable pub record-bytes : Kind → (mark : ℕ) → List Fix → List ℕ

@@ -5,3 +5,4 @@ pub mod Numbers
 pub mod Scan
 pub mod Head
 pub mod Reading
+pub mod Stores

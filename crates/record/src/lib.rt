@@ -6,9 +6,10 @@ ghost use mathlib.Core.Path.{_≡_};
 ghost use Prim.Native.Nat.{_+_, _*_, _-_, _<_, _≤_};
 ghost use mathlib.Core.List.{List, [], _∷_, _++_};
 ghost use lib.ListN.{length};
+ghost use lib.Seq.{sets};
 ghost use Rattle.distance.specs.Fix.{Fix as Plain, fixOf};
-ghost use Rattle.record.specs.Bytes.{number-at, signed};
-ghost use Rattle.record.specs.Format.{trail, count-field, fix-at, each};
+ghost use Rattle.record.specs.Bytes.{number-at, bytes-of, signed, unsigned};
+ghost use Rattle.record.specs.Format.{trail, count-field, fix-at, each, fix-bytes, header-bytes};
 ghost use Rattle.record.specs.Checks.{Asked, sentence, first, asked-of, nothing, head-checks, fix-checks, read-refusal, outside, fix-outside};
 ghost use Rattle.record.specs.Reading.{stands, yields, moves};
 ghost use Rattle.record.specs.Answers.{refused, found};
@@ -241,4 +242,57 @@ pub fn read_on(b: &[u8], k: usize) -> usize
         return k + 1;
     }
     k
+}
+
+// Two bytes of a number.
+fn put_two(out: &mut [u8], at: usize, n: u32)
+    requires { ⌜ at + 2 ≤ length (now out) ⌝ }
+    ensures { λ _. ⌜ now (out .exit) ≡ sets (now (out .entry)) at (bytes-of 2 n) ⌝ }
+{
+    out[at] = (n % 256) as u8;
+    out[at + 1] = (n / 256 % 256) as u8;
+}
+
+// Four bytes of a number.
+fn put_four(out: &mut [u8], at: usize, n: u32)
+    requires { ⌜ at + 4 ≤ length (now out) ⌝ }
+    ensures { λ _. ⌜ now (out .exit) ≡ sets (now (out .entry)) at (bytes-of 4 n) ⌝ }
+{
+    out[at] = (n % 256) as u8;
+    out[at + 1] = (n / 256 % 256) as u8;
+    out[at + 2] = (n / 65536 % 256) as u8;
+    out[at + 3] = (n / 16777216 % 256) as u8;
+}
+
+// The number that says a coordinate in two's complement.
+fn coordinate_number(c: Centimetres) -> u32
+    ensures { λ r. ⌜ r ≡ unsigned 2 (c .0) ⌝ }
+{
+    let z = c.0 as i32;
+    if z < 0 {
+        return (z + 65536) as u32;
+    }
+    z as u32
+}
+
+// A fix at a place of the output.
+fn put_fix(out: &mut [u8], at: usize, f: Fix)
+    requires { ⌜ at + 8 ≤ length (now out) ⌝ }
+    ensures { λ _. ⌜ now (out .exit) ≡ sets (now (out .entry)) at (fix-bytes trail (fixOf f)) ⌝ }
+{
+    let t = f.t;
+    put_four(out, at, t.0);
+    put_two(out, at + 4, coordinate_number(f.x));
+    put_two(out, at + 6, coordinate_number(f.y));
+}
+
+// The head of a record of n fixes.
+fn put_head(out: &mut [u8], n: u32, mark: u32)
+    requires { ⌜ (n ≤ 4096) × (10 ≤ length (now out)) ⌝ }
+    ensures { λ _. ⌜ now (out .exit) ≡ sets (now (out .entry)) 0 (header-bytes trail mark n) ⌝ }
+{
+    put_four(out, 0, 10 + 8 * n);
+    put_two(out, 4, 1);
+    put_two(out, 6, mark);
+    put_two(out, 8, n);
 }

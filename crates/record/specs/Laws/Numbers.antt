@@ -5,15 +5,23 @@ use Prim.Native.Nat.{ℕ, zero, suc, _+_, _*_, _-_, _^_, _<_, _≤_}
 use native.Mathlib.Omega.{arith}
 use native.Mathlib.Numerals.{add-one, add-two, add-three}
 use lib.ListN.{getD}
-use lib.IntN.{ℤ, pos, negsuc, _-ℤ_}
+use mathlib.Core.Bool.{Bool, true, false}
+use lib.Dec.{T}
+use lib.IntN.{ℤ, pos, negsuc, natAbs, _+ℤ_, _-ℤ_}
+use lib.Signed.{nonNeg, ltZ}
 use borrow.Author.Tests.{lt-ltb, le-ltb}
-use mir.Syntax.{w16}
-use mir.Val.{SFits, toZ}
+use mir.Syntax.{w16, w32}
+use mir.Val.{Fits, SFits, toZ}
 use mir.Facts.{toZ-pos}
 use Rattle.distance.specs.Integers.Differences.{diffs}
-use Rattle.record.specs.Bytes.{number-at, signed}
+use Rattle.distance.specs.Integers.Order.{ltZ-false, zero-le}
+use Rattle.distance.specs.Integers.Bounds.{Bound, _⊕_, of-width, fits}
+use Rattle.record.specs.Bytes.{number-at, signed, unsigned}
 use Rattle.record.specs.Format.{trail, fix-at}
 use Rattle.distance.specs.Fix.{Fix}
+
+false-true : false ≡ true → ⊥
+false-true e = let z : _≡_ {A = ℕ} 0 1 = cc in omega arith
 
 -- two and four bytes, written out
 pub two-bytes : (b : List ℕ) (at : ℕ) → getD b at 0 + getD b (at + 1) 0 * 256 ≡ number-at b at 2
@@ -52,3 +60,33 @@ pub fix-parts : (b : List ℕ) (k t : ℕ) (x y : ℤ) → t ≡ number-at b (10
     → _≡_ {A = Fix} (record { t = t; x = x; y = y }) (fix-at trail b k)
 unfolding fix-at
 fix-parts b k t x y p q r = let e : 10 + 8 * k + 6 ≡ 10 + 8 * k + 4 + 2 = omega arith in rw (p, q, r, e) refl
+
+-- ---- the other way: the number that says a coordinate
+pub record NumberFits (z : ℤ) : Type 0 where
+  pub z16 : SFits w16 z
+  pub z32 : SFits w32 z
+  pub sum32 : SFits w32 (z +ℤ pos 65536)
+
+pub number-fits : {z : ℤ} → SFits w16 z → NumberFits z
+number-fits {z} f =
+    let up : Bound (pos 65536) = record { top = 65536; holds = omega arith } in
+    record { z16 = f; z32 = fits w32 (of-width w16 f) tt; sum32 = fits w32 (of-width w16 f ⊕ up) tt }
+
+-- below 0 it is 65,536 more than the coordinate, else the coordinate itself
+pub record NumberIs (z u : ℤ) : Type 0 where
+  pub not-negative : T (nonNeg u)
+  pub fits32 : Fits w32 (natAbs u)
+  pub is : natAbs u ≡ unsigned 2 z
+
+pub number-negative : (z : ℤ) → SFits w16 z → ltZ z (pos 0) ≡ true → NumberIs z (z +ℤ pos 65536)
+unfolding unsigned
+number-negative (pos n) f h = absurd (false-true (sym (ltZ-false {x = pos n} {y = pos 0} (zero-le n)) ∙ h))
+number-negative (negsuc n) f h =
+    let small : n < 32768 = f .sfits in
+    let e : negsuc n +ℤ pos 65536 ≡ pos (65536 - suc n) = simp diffs (omega arith) in
+    record { not-negative = rw e tt; fits32 = rw e (record { fits = omega arith }); is = rw e refl }
+
+pub number-positive : (z : ℤ) → SFits w16 z → ltZ z (pos 0) ≡ false → NumberIs z z
+unfolding unsigned
+number-positive (pos n) f h = let small : n < 32768 = f .sfits in record { not-negative = tt; fits32 = record { fits = omega arith }; is = refl }
+number-positive (negsuc n) f h = absurd (false-true (sym h))
