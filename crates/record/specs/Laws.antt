@@ -6,3 +6,4 @@ pub mod Scan
 pub mod Head
 pub mod Reading
 pub mod Stores
+pub mod Writing

@@ -3,16 +3,17 @@ use distance::Centimetres;
 use distance::Fix;
 use distance::Seconds;
 ghost use mathlib.Core.Path.{_≡_};
-ghost use Prim.Native.Nat.{_+_, _*_, _-_, _<_, _≤_};
+ghost use Prim.Native.Nat.{_+_, _*_, _-_, _<_, _≤_, min};
 ghost use mathlib.Core.List.{List, [], _∷_, _++_};
 ghost use lib.ListN.{length};
 ghost use lib.Seq.{sets};
 ghost use Rattle.distance.specs.Fix.{Fix as Plain, fixOf};
 ghost use Rattle.record.specs.Bytes.{number-at, bytes-of, signed, unsigned};
 ghost use Rattle.record.specs.Format.{trail, count-field, fix-at, each, fix-bytes, header-bytes};
-ghost use Rattle.record.specs.Checks.{Asked, sentence, first, asked-of, nothing, head-checks, fix-checks, read-refusal, outside, fix-outside};
+ghost use Rattle.record.specs.Checks.{Asked, sentence, first, asked-of, nothing, head-checks, fix-checks, read-refusal, refusal, writing, outside, fix-outside};
 ghost use Rattle.record.specs.Reading.{stands, yields, moves};
-ghost use Rattle.record.specs.Answers.{refused, found};
+ghost use Rattle.record.specs.Writing.{asked-to-write, column-fix, columns, write-answer, written};
+ghost use Rattle.record.specs.Answers.{refused, found, wrote};
 ghost use Rattle.record.specs.Laws.Scan.{Scanned};
 
 // Whether lent bytes begin with a record: accepted, or the number of the first check that turns them away.
@@ -295,4 +296,64 @@ fn put_head(out: &mut [u8], n: u32, mark: u32)
     put_two(out, 4, 1);
     put_two(out, 6, mark);
     put_two(out, 8, n);
+}
+
+// What the writer answers.
+pub enum Written {
+    Length(u32),
+    Refused(u8),
+}
+
+fn least(a: usize, b: usize) -> usize
+    ensures { λ r. ⌜ r ≡ min a b ⌝ }
+{
+    if a < b { a } else { b }
+}
+
+// The fix that the three columns have at position k.
+fn column_fix(ts: &[u32], xs: &[i16], ys: &[i16], k: usize) -> Fix
+    requires { ⌜ (k < length (now ts)) × (k < length (now xs)) × (k < length (now ys)) ⌝ }
+    ensures { λ r. ⌜ fixOf r ≡ column-fix (now (ts .entry)) (now (xs .entry)) (now (ys .entry)) k ⌝ }
+{
+    Fix {
+        t: Seconds(ts[k]),
+        x: Centimetres(xs[k]),
+        y: Centimetres(ys[k]),
+    }
+}
+
+// The pass over the n fixes that are to be written.
+fn scan_columns(ts: &[u32], xs: &[i16], ys: &[i16], n: usize) -> Scan
+    requires { ⌜ (1 ≤ n) × (n ≤ length (now ts)) × (n ≤ length (now xs)) × (n ≤ length (now ys)) ⌝ }
+    ensures { λ r. ⌜ Scanned (column-fix (now (ts .entry)) (now (xs .entry)) (now (ys .entry)) 0) (each (column-fix (now (ts .entry)) (now (xs .entry)) (now (ys .entry))) 1 (n - 1)) r ⌝ }
+{
+    let mut s = scan_first(column_fix(ts, xs, ys, 0));
+    let mut k = 1;
+    while k < n {
+        s = scan_next(s, column_fix(ts, xs, ys, k));
+        k += 1;
+    }
+    s
+}
+
+// The writer's checks 3, 7, 8, 9 and 15, of a list of n fixes whose pass said `scanned` and an output of so many bytes.
+fn write_says(n: usize, scanned: Checked, output: usize) -> Checked
+    ensures { λ r. ⌜ ((l : List Plain) → length l ≡ n → refused scanned ≡ first (sentence trail (asked-to-write l output)) fix-checks → refused r ≡ refusal trail writing (asked-to-write l output)) ⌝ }
+{
+    if n == 0 {
+        return Checked::Refused(3);
+    }
+    if 4096 < n {
+        return Checked::Refused(3);
+    }
+    match scanned {
+        Checked::Refused(k) => Checked::Refused(k),
+        Checked::Accepted => {
+            if output < 10 + 8 * n {
+                Checked::Refused(15)
+            } else {
+                Checked::Accepted
+            }
+        },
+    }
 }
