@@ -9,7 +9,7 @@ ghost use lib.ListN.{length};
 ghost use lib.Seq.{sets};
 ghost use Rattle.distance.specs.Fix.{Fix as Plain, fixOf};
 ghost use Rattle.record.specs.Bytes.{number-at, bytes-of, signed, unsigned};
-ghost use Rattle.record.specs.Format.{trail, count-field, fix-at, each, fix-bytes, header-bytes};
+ghost use Rattle.record.specs.Format.{trail, count-field, fix-at, each, fix-bytes, all-bytes, header-bytes};
 ghost use Rattle.record.specs.Checks.{Asked, sentence, first, asked-of, nothing, head-checks, fix-checks, read-refusal, refusal, writing, outside, fix-outside};
 ghost use Rattle.record.specs.Reading.{stands, yields, moves};
 ghost use Rattle.record.specs.Writing.{asked-to-write, column-fix, columns, write-answer, written};
@@ -354,6 +354,45 @@ fn write_says(n: usize, scanned: Checked, output: usize) -> Checked
             } else {
                 Checked::Accepted
             }
+        },
+    }
+}
+
+// All that the writer asks of n fixes, before it touches the output.
+fn columns_say(ts: &[u32], xs: &[i16], ys: &[i16], n: usize, output: usize) -> Checked
+    requires { ⌜ (n ≤ length (now ts)) × (n ≤ length (now xs)) × (n ≤ length (now ys)) ⌝ }
+    ensures { λ r. ⌜ refused r ≡ refusal trail writing (asked-to-write (each (column-fix (now (ts .entry)) (now (xs .entry)) (now (ys .entry))) 0 n) output) ⌝ }
+{
+    if n == 0 {
+        return write_says(n, Checked::Accepted, output);
+    }
+    write_says(n, scan_says(scan_columns(ts, xs, ys, n)), output)
+}
+
+// The n fixes, after a record's head.
+fn put_columns(ts: &[u32], xs: &[i16], ys: &[i16], n: usize, out: &mut [u8])
+    requires { ⌜ (n ≤ length (now ts)) × (n ≤ length (now xs)) × (n ≤ length (now ys)) × (n ≤ 4096) × (10 + 8 * n ≤ length (now out)) ⌝ }
+    ensures { λ _. ⌜ now (out .exit) ≡ sets (now (out .entry)) 10 (all-bytes trail (each (column-fix (now (ts .entry)) (now (xs .entry)) (now (ys .entry))) 0 n)) ⌝ }
+{
+    let mut k = 0;
+    while k < n {
+        put_fix(out, 10 + 8 * k, column_fix(ts, xs, ys, k));
+        k += 1;
+    }
+}
+
+// The record of the fixes that the three columns have, marked never.
+pub fn write(ts: &[u32], xs: &[i16], ys: &[i16], out: &mut [u8]) -> Written
+    ensures { λ r. ⌜ (wrote r ≡ write-answer trail (columns (now (ts .entry)) (now (xs .entry)) (now (ys .entry))) (now (out .entry))) × (now (out .exit) ≡ written trail (columns (now (ts .entry)) (now (xs .entry)) (now (ys .entry))) (now (out .entry))) ⌝ }
+{
+    let n = least(ts.len(), least(xs.len(), ys.len()));
+    let v = columns_say(ts, xs, ys, n, out.len());
+    match v {
+        Checked::Refused(k) => Written::Refused(k),
+        Checked::Accepted => {
+            put_head(out, n as u32, 65535);
+            put_columns(ts, xs, ys, n, out);
+            Written::Length(10 + 8 * (n as u32))
         },
     }
 }

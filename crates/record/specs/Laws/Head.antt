@@ -103,12 +103,16 @@ pub record Head (b : List ℕ) : Type 0 where
   pub length-is : length-field b ≡ 10 + 8 * count-field b
   pub whole : 10 + 8 * count-field b ≤ length b
 
-neither : (x y : Bool) → x || y ≡ false → (x ≡ false) × (y ≡ false)
+pub neither : (x y : Bool) → x || y ≡ false → (x ≡ false) × (y ≡ false)
 neither true y h = absurd (true-false h)
   where
     true-false : true ≡ false → ⊥
     true-false e = let z : _≡_ {A = ℕ} 0 1 = cc in omega arith
 neither false y h = (refl, h)
+
+pub positive : (n : ℕ) → (n ≡ 0 → ⊥) → 1 ≤ n
+positive zero f = absurd (f refl)
+positive (suc n) f = omega arith
 
 pub head-passed : (b : List ℕ) → first (says b) head-checks ≡ none → Head b
 unfolding sentence
@@ -130,7 +134,3 @@ head-passed b h = go (none-holds (says b) head-checks h)
           length-is = len;
           whole = omega arith;
         }
-      where
-        positive : (n : ℕ) → (n ≡ 0 → ⊥) → 1 ≤ n
-        positive zero f = absurd (f refl)
-        positive (suc n) f = omega arith

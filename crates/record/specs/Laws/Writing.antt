@@ -5,59 +5,65 @@ use mathlib.Core.List.{List, [], _∷_, _++_, append-nil, append-assoc}
 use mathlib.Core.Option.{Option, some, none}
 use Prim.Native.Nat.{ℕ, zero, suc, _+_, _*_, _<_, _≤_}
 use native.Mathlib.Omega.{arith}
-use lib.ListN.{length, length-append}
-use borrow.Author.Tests.{lt-ltb, le-ltb, eq-eqb, ne-eqb}
+use lib.ListN.{length, drop, length-append}
+use lib.Seq.{sets}
+use native.Mathlib.Numerals.{add-one}
+use lib.Dec.{ltb, eqb}
+use borrow.Author.Tests.{lt-ltb, le-ltb, eq-eqb, ne-eqb, ltb-false}
 use Rattle.distance.specs.Fix.{Fix}
-use Rattle.record.specs.Bytes.{bytes-of, unsigned}
-use Rattle.record.specs.Format.{trail, fix-bytes, all-bytes}
-use Rattle.record.specs.Checks.{Check, bad-count, short-output, sentence, first, fix-checks, refusal, writing}
-use Rattle.record.specs.Writing.{asked-to-write}
-use Rattle.record.specs.Laws.First.{stops, passes, none-first, some-first}
-use Rattle.record.specs.Laws.Stores.{length-bytes}
+use Rattle.record.specs.Bytes.{bytes-of}
+use Rattle.record.specs.Format.{trail, each, fix-bytes, all-bytes, header-bytes, record-bytes}
+use Rattle.record.specs.Checks.{Check, bad-count, short-output, sentence, first, fix-checks, refusal, writing, some-outside, some-early, of-ends}
+use Rattle.record.specs.Writing.{asked-to-write, write-refusal, write-answer, written}
+use Rattle.record.specs.Answers.{gives, turns-away}
+use Rattle.record.specs.Laws.First.{stops, passes, none-first, some-first, NoneHolds, no-check, and-not, none-holds}
+use Rattle.record.specs.Laws.Head.{neither}
+use Rattle.record.specs.Laws.Stores.{sets-then, sets-front}
+use Rattle.record.specs.Laws.Each.{length-each, each-more}
+
+abbrev pub says : List Fix → ℕ → Check → Bool
+says l output = sentence trail (asked-to-write l output)
 
 module _ (l : List Fix) (output : ℕ) where
-  abbrev says : Check → Bool
-  says = sentence trail (asked-to-write l output)
-
-  no-fix : length l ≡ 0 → says bad-count ≡ true
+  no-fix : length l ≡ 0 → says l output bad-count ≡ true
   unfolding sentence
   no-fix h = rw (eq-eqb _ _ h) refl
 
-  many-fixes : 4096 < length l → says bad-count ≡ true
+  many-fixes : 4096 < length l → says l output bad-count ≡ true
   unfolding sentence
   many-fixes h = rw (ne-eqb (length l) 0 (λ e. omega arith), lt-ltb _ _ h) refl
 
-  good-count : (length l ≡ 0 → ⊥) → length l ≤ 4096 → says bad-count ≡ false
+  good-count : (length l ≡ 0 → ⊥) → length l ≤ 4096 → says l output bad-count ≡ false
   unfolding sentence
   good-count h k = rw (ne-eqb _ _ h, le-ltb _ _ k) refl
 
-  short : output < 10 + 8 * length l → says short-output ≡ true
+  short : output < 10 + 8 * length l → says l output short-output ≡ true
   unfolding sentence
   short h = lt-ltb _ _ h
 
-  not-short : 10 + 8 * length l ≤ output → says short-output ≡ false
+  not-short : 10 + 8 * length l ≤ output → says l output short-output ≡ false
   unfolding sentence
   not-short h = le-ltb _ _ h
 
   pub writes-3-none : length l ≡ 0 → refusal trail writing (asked-to-write l output) ≡ some 3
-  writes-3-none h = stops says bad-count _ (no-fix h)
+  writes-3-none h = stops (says l output) bad-count _ (no-fix h)
 
   pub writes-3-many : 4096 < length l → refusal trail writing (asked-to-write l output) ≡ some 3
-  writes-3-many h = stops says bad-count _ (many-fixes h)
+  writes-3-many h = stops (says l output) bad-count _ (many-fixes h)
 
   module _ (h : length l ≡ 0 → ⊥) (g : length l ≤ 4096) where
-    counted : refusal trail writing (asked-to-write l output) ≡ first says (fix-checks ++ short-output ∷ [])
-    counted = passes says bad-count (fix-checks ++ short-output ∷ []) (good-count h g)
+    counted : refusal trail writing (asked-to-write l output) ≡ first (says l output) (fix-checks ++ short-output ∷ [])
+    counted = passes (says l output) bad-count (fix-checks ++ short-output ∷ []) (good-count h g)
 
-    pub writes-fix : (k : ℕ) → first says fix-checks ≡ some k → refusal trail writing (asked-to-write l output) ≡ some k
-    writes-fix k e = counted ∙ some-first says fix-checks (short-output ∷ []) k e
+    pub writes-fix : (k : ℕ) → first (says l output) fix-checks ≡ some k → refusal trail writing (asked-to-write l output) ≡ some k
+    writes-fix k e = counted ∙ some-first (says l output) fix-checks (short-output ∷ []) k e
 
-    pub writes-15 : first says fix-checks ≡ none → output < 10 + 8 * length l → refusal trail writing (asked-to-write l output) ≡ some 15
-    writes-15 e s = counted ∙ none-first says fix-checks (short-output ∷ []) e ∙ stops says short-output [] (short s)
+    pub writes-15 : first (says l output) fix-checks ≡ none → output < 10 + 8 * length l → refusal trail writing (asked-to-write l output) ≡ some 15
+    writes-15 e s = counted ∙ none-first (says l output) fix-checks (short-output ∷ []) e ∙ stops (says l output) short-output [] (short s)
 
-    pub writes-none : first says fix-checks ≡ none → 10 + 8 * length l ≤ output → refusal trail writing (asked-to-write l output) ≡ none
+    pub writes-none : first (says l output) fix-checks ≡ none → 10 + 8 * length l ≤ output → refusal trail writing (asked-to-write l output) ≡ none
     unfolding first
-    writes-none e s = counted ∙ none-first says fix-checks (short-output ∷ []) e ∙ passes says short-output [] (not-short s)
+    writes-none e s = counted ∙ none-first (says l output) fix-checks (short-output ∷ []) e ∙ passes (says l output) short-output [] (not-short s)
 
 -- ---- the bytes of a list of fixes
 pub length-fix-bytes : (f : Fix) → length (fix-bytes trail f) ≡ 8
@@ -73,3 +79,55 @@ pub all-bytes-more : (l : List Fix) (f : Fix) → all-bytes trail (l ++ f ∷ []
 unfolding all-bytes
 all-bytes-more [] f = append-nil (fix-bytes trail f)
 all-bytes-more (g ∷ l) f = ap (λ (m : List ℕ). fix-bytes trail g ++ m) (all-bytes-more l f) ∙ sym (append-assoc (fix-bytes trail g) (all-bytes trail l) (fix-bytes trail f))
+
+-- the loop over positions: fix k follows on the fixes before it
+pub stores-more : (b : List ℕ) (f : ℕ → Fix) (a : Fix) (k : ℕ) → a ≡ f k
+    → sets (sets b 10 (all-bytes trail (each f 0 k))) (10 + 8 * k) (fix-bytes trail a) ≡ sets b 10 (all-bytes trail (each f 0 (k + 1)))
+stores-more b f a k e =
+    let m : 10 + 8 * k ≡ 10 + length (all-bytes trail (each f 0 k)) = rw (length-all-bytes (each f 0 k), length-each f 0 k) refl in
+    let n : 0 + k ≡ k = omega arith in
+    sets-then b 10 (all-bytes trail (each f 0 k)) (10 + 8 * k) (fix-bytes trail a) m
+    ∙ rw (add-one, each-more f 0 k, n, all-bytes-more (each f 0 k) (f k), e) refl
+
+-- no fixes are turned away by none of checks 7 to 9
+pub none-turned-away : (l : List Fix) (output : ℕ) → length l ≡ 0 → none ≡ first (says l output) fix-checks
+unfolding first sentence some-outside some-early of-ends
+none-turned-away [] output h = refl
+none-turned-away (f ∷ l) output h = absurd (omega arith)
+
+pub length-header : (mark n : ℕ) → length (header-bytes trail mark n) ≡ 10
+unfolding header-bytes bytes-of
+length-header mark n = refl
+
+-- the head and the fixes make the record, and what stood after it stays
+pub record-stores : (b : List ℕ) (mark : ℕ) (l : List Fix) → 10 + 8 * length l ≤ length b
+    → sets (sets b 0 (header-bytes trail mark (length l))) 10 (all-bytes trail l) ≡ record-bytes trail mark l ++ drop (10 + 8 * length l) b
+unfolding record-bytes
+record-stores b mark l h =
+    let head = header-bytes trail mark (length l) in
+    let e : length (head ++ all-bytes trail l) ≡ 10 + 8 * length l = length-append head (all-bytes trail l) ∙ rw (length-header mark (length l), length-all-bytes l) refl in
+    sets-then b 0 head 10 (all-bytes trail l) (rw (length-header mark (length l)) refl) ∙ sets-front b (head ++ all-bytes trail l) (omega arith) ∙ rw e refl
+
+pub stores-none : (b : List ℕ) (f : ℕ → Fix) → b ≡ sets b 10 (all-bytes trail (each f 0 0))
+unfolding each all-bytes
+stores-none b f = refl
+
+-- a list that is turned away by none of the writer's checks fits a record and the output
+pub writes-fit : (l : List Fix) (output : ℕ) → refusal trail writing (asked-to-write l output) ≡ none → (length l ≤ 4096) × (10 + 8 * length l ≤ output)
+unfolding sentence
+writes-fit l output h = go (none-holds (says l output) (bad-count ∷ (fix-checks ++ short-output ∷ [])) h)
+  where
+    go : NoneHolds (says l output) (bad-count ∷ (fix-checks ++ short-output ∷ [])) → (length l ≤ 4096) × (10 + 8 * length l ≤ output)
+    go (and-not h3 (and-not h7 (and-not h8 (and-not h9 (and-not h15 no-check))))) =
+        (ltb-false 4096 (length l) (neither (eqb (length l) 0) (ltb 4096 (length l)) h3 .1), ltb-false output (10 + 8 * length l) h15)
+
+-- the answer and the output, as the definitions have them; n is the length of the list
+module _ (l : List Fix) (out : List ℕ) (n : ℕ) (is : length l ≡ n) (h : write-refusal trail l out ≡ none) where
+  pub writes-length : gives (10 + 8 * n) ≡ write-answer trail l out
+  writes-length = rw (h, is) refl
+
+  pub writes-record : sets (sets out 0 (header-bytes trail 65535 n)) 10 (all-bytes trail l) ≡ written trail l out
+  writes-record = rw (← is) (record-stores out 65535 l (writes-fit l (length out) h .1) ∙ rw h refl)
+
+pub writes-refusal : (l : List Fix) (out : List ℕ) (k : ℕ) → write-refusal trail l out ≡ some k → (turns-away k ≡ write-answer trail l out) × (out ≡ written trail l out)
+writes-refusal l out k h = (rw h refl, rw h refl)
