@@ -7,3 +7,4 @@ pub mod Head
 pub mod Reading
 pub mod Stores
 pub mod Writing
+pub mod Text

@@ -1,4 +1,6 @@
 // The record layer: the byte format of a trail, the checks that every call makes of it, its reader, writer and listing.
+mod text;
+
 use distance::Centimetres;
 use distance::Fix;
 use distance::Seconds;

@@ -20,7 +20,7 @@ use Rattle.record.specs.Bytes.{number-at, signed, unsigned}
 use Rattle.record.specs.Format.{trail, fix-at}
 use Rattle.distance.specs.Fix.{Fix}
 
-false-true : false ≡ true → ⊥
+pub false-true : false ≡ true → ⊥
 false-true e = let z : _≡_ {A = ℕ} 0 1 = cc in omega arith
 
 -- two and four bytes, written out

@@ -1,0 +1,121 @@
+-- Laws of the listing's text: decimal numbers digit by digit, and how long the text can be.
+use mathlib.Core.Path.{_≡_, refl, sym, _∙_, ap}
+use mathlib.Core.Bool.{Bool, true, false, cond}
+use mathlib.Core.List.{List, [], _∷_, _++_}
+use Prim.Native.Nat.{ℕ, zero, suc, _+_, _*_, _/_, _%_, _^_, _<_, _≤_}
+use native.Mathlib.Omega.{arith}
+use lib.Dec.{T}
+use lib.ListN.{length, getD, take, set, length-append}
+use lib.Seq.{sets, length-take-le, take-suc}
+use native.Mathlib.Nat.{pow-suc}
+use native.Mathlib.Numerals.{add-one}
+use lib.Signed.{nonNeg, ltZ}
+use mir.Syntax.{w16, w32}
+use mir.Val.{Fits, SFits}
+use lib.IntN.{ℤ, pos, negsuc, natAbs, _-ℤ_}
+use borrow.Author.Tests.{lt-ltb, le-ltb, ltb-true, ltb-false}
+use Rattle.distance.specs.Integers.Order.{ltZ-false, zero-le}
+use Rattle.distance.specs.Integers.Bounds.{Bound, _⊝_, of-width, fits}
+use Rattle.distance.specs.Integers.Tests.{Test, holds, fails, test}
+use Rattle.record.specs.Text.{digit, digits, decimal, integer}
+use Rattle.record.specs.Laws.Numbers.{false-true}
+use Rattle.record.specs.Laws.Stores.{sets-then}
+
+-- one digit, or the digits before the last and the last: whatever the depth, if it is enough
+one-digit : (k n : ℕ) → n < 10 → digits k n ≡ digit n ∷ []
+unfolding digits
+one-digit zero n h = refl
+one-digit (suc k) n h = rw (lt-ltb n 10 h) refl
+
+more-digits : (k n : ℕ) → 10 ≤ n → digits (suc k) n ≡ digits k (n / 10) ++ digit (n % 10) ∷ []
+unfolding digits
+more-digits k n h = rw (le-ltb n 10 h) refl
+
+-- enough depth is enough
+enough : (k m n : ℕ) → n ≤ k → n ≤ m → digits k n ≡ digits m n
+enough zero m n h g = one-digit 0 n (omega arith) ∙ sym (one-digit m n (omega arith))
+enough (suc k) zero n h g = one-digit (suc k) n (omega arith) ∙ sym (one-digit 0 n (omega arith))
+enough (suc k) (suc m) n h g = go (test 10 n) (enough k m (n / 10))
+  where
+    go : {b : Bool} → Test 10 n b → (n / 10 ≤ k → n / 10 ≤ m → digits k (n / 10) ≡ digits m (n / 10)) → digits (suc k) n ≡ digits (suc m) n
+    go (holds t) r = more-digits k n t ∙ rw (r (omega arith) (omega arith)) (sym (more-digits m n t))
+    go (fails t) r = one-digit (suc k) n (omega arith) ∙ sym (one-digit (suc m) n (omega arith))
+
+pub decimal-one : (n : ℕ) → n < 10 → decimal n ≡ digit n ∷ []
+unfolding decimal
+decimal-one n h = one-digit n n h
+
+pub decimal-last : (n : ℕ) → 10 ≤ n → decimal n ≡ decimal (n / 10) ++ digit (n % 10) ∷ []
+unfolding decimal
+decimal-last zero h = absurd (omega arith)
+decimal-last (suc n) h = more-digits n (suc n) h ∙ rw (enough n (suc n / 10) (suc n / 10) (omega arith) (omega arith)) refl
+
+pub length-one : (n : ℕ) → n < 10 → length (decimal n) ≡ 1
+length-one n h = rw (decimal-one n h) refl
+
+pub length-last : (n : ℕ) → 10 ≤ n → length (decimal n) ≡ length (decimal (n / 10)) + 1
+length-last n h = ap length (decimal-last n h) ∙ length-append (decimal (n / 10)) (digit (n % 10) ∷ [])
+
+-- stored: the only digit, and the last after the others
+pub store-one : (b : List ℕ) (at n : ℕ) → n < 10 → set b at (48 + n) ≡ sets b at (decimal n)
+store-one b at n h = rw (decimal-one n h) refl
+
+pub store-last : (b c : List ℕ) (at end n : ℕ) → 10 ≤ n → end ≡ at + length (decimal (n / 10)) → c ≡ sets b at (decimal (n / 10))
+    → set c end (48 + n % 10) ≡ sets b at (decimal n)
+store-last b c at end n h e f = rw (f, decimal-last n h) (sets-then b at (decimal (n / 10)) end (digit (n % 10) ∷ []) e)
+
+-- a number below 10 to the power of d has at most d digits
+pub decimal-short : (d n : ℕ) → n < 10 ^ suc d → length (decimal n) ≤ suc d
+decimal-short zero n h = omega (arith, length-one n h)
+decimal-short (suc d) n h = go (test 10 n) (decimal-short d (n / 10))
+  where
+    go : {b : Bool} → Test 10 n b → (n / 10 < 10 ^ suc d → length (decimal (n / 10)) ≤ suc d) → length (decimal n) ≤ suc (suc d)
+    go (holds t) r = let p : n < 10 ^ suc d * 10 = rw (pow-suc 10 (suc d)) at h in omega (arith, length-last n t, r (omega arith))
+    go (fails t) r = omega (arith, length-one n t)
+
+-- a word stored byte by byte
+pub store-word : (b w : List ℕ) (at k : ℕ) → k < length w → set (sets b at (take k w)) (at + k) (getD w k 0) ≡ sets b at (take (k + 1) w)
+store-word b w at k h =
+    let e : length (take k w) ≡ k = length-take-le k w (omega arith) in
+    rw (add-one, take-suc w k 0 h) (sets-then b at (take k w) (at + k) (getD w k 0 ∷ []) (rw e refl))
+
+-- ---- a coordinate of 16 bits takes at most six bytes
+pub record SignFits (z : ℤ) : Type 0 where
+  pub z16 : SFits w16 z
+  pub z32 : SFits w32 z
+  pub minus32 : SFits w32 (pos 0 -ℤ z)
+
+pub sign-fits : {z : ℤ} → SFits w16 z → SignFits z
+sign-fits {z} f =
+    let none : Bound (pos 0) = record { top = 0; holds = omega arith } in
+    record { z16 = f; z32 = fits w32 (of-width w16 f) tt; minus32 = fits w32 (none ⊝ of-width w16 f) tt }
+
+-- u is what stands after the sign
+pub record Magnitude (z u : ℤ) : Type 0 where
+  pub not-negative : T (nonNeg u)
+  pub fits32 : Fits w32 (natAbs u)
+  pub five : length (decimal (natAbs u)) ≤ 5
+
+five-digits : (n : ℕ) → n < 100000 → length (decimal n) ≤ 5
+five-digits n h = decimal-short 4 n h
+
+pub below-zero : (z : ℤ) → SFits w16 z → ltZ z (pos 0) ≡ true → Magnitude z (pos 0 -ℤ z) × (integer z ≡ 45 ∷ decimal (natAbs (pos 0 -ℤ z)))
+unfolding integer
+below-zero (pos n) f h = absurd (false-true (sym (ltZ-false {x = pos n} {y = pos 0} (zero-le n)) ∙ h))
+below-zero (negsuc n) f h =
+    let small : n < 32768 = f .sfits in
+    let e : 0 + suc n ≡ suc n = omega arith in
+    (record { not-negative = tt; fits32 = record { fits = omega arith }; five = rw e (five-digits (suc n) (omega arith)) }, rw e refl)
+
+pub from-zero : (z : ℤ) → SFits w16 z → ltZ z (pos 0) ≡ false → Magnitude z z × (integer z ≡ decimal (natAbs z))
+unfolding integer
+from-zero (pos n) f h = let small : n < 32768 = f .sfits in (record { not-negative = tt; fits32 = record { fits = omega arith }; five = five-digits n (omega arith) }, refl)
+from-zero (negsuc n) f h = absurd (false-true (sym h))
+
+pub store-sign : (b c : List ℕ) (at m r : ℕ) (z : ℤ) → integer z ≡ 45 ∷ decimal m → length (decimal m) ≤ 5 → r ≡ at + 1 + length (decimal m) → c ≡ sets (set b at 45) (at + 1) (decimal m)
+    → (r ≡ at + length (integer z)) × (r ≤ at + 6) × (c ≡ sets b at (integer z))
+store-sign b c at m r z e five h g = (rw e (omega arith), omega arith, rw (g, e, add-one) refl)
+
+pub store-plain : (b c : List ℕ) (at m r : ℕ) (z : ℤ) → integer z ≡ decimal m → length (decimal m) ≤ 5 → r ≡ at + length (decimal m) → c ≡ sets b at (decimal m)
+    → (r ≡ at + length (integer z)) × (r ≤ at + 6) × (c ≡ sets b at (integer z))
+store-plain b c at m r z e five h g = (rw e h, omega arith, rw e g)
