@@ -1,15 +1,16 @@
 // The listing: a record as text.
-ghost use mathlib.Core.Path.{_≡_};
-ghost use Prim.Native.Nat.{_+_, _≤_};
+ghost use Prim.Native.Nat.{_+_, _≤_, _<_};
 ghost use lib.ListN.{length};
-ghost use lib.Seq.{sets};
-ghost use Rattle.record.specs.Text.{decimal, integer};
+ghost use Rattle.distance.specs.Fix.{fixOf};
+ghost use Rattle.record.specs.Text.{decimal, integer, fix-line, mark-text, first-line, refusal-line};
+ghost use Rattle.record.specs.Laws.Text.{Stored};
 use distance::Centimetres;
+use distance::Fix;
 
 // A number in decimal: the digits before the last, by itself, and then the last.
 fn put_decimal(out: &mut [u8], at: usize, n: u32) -> usize
     requires { ⌜ at + length (decimal n) ≤ length (now out) ⌝ }
-    ensures { λ r. ⌜ (r ≡ at + length (decimal n)) × (now (out .exit) ≡ sets (now (out .entry)) at (decimal n)) ⌝ }
+    ensures { λ r. ⌜ Stored (now (out .entry)) at (now (out .exit)) r (decimal n) ⌝ }
 {
     if n < 10 {
         out[at] = (48 + n) as u8;
@@ -23,7 +24,7 @@ fn put_decimal(out: &mut [u8], at: usize, n: u32) -> usize
 // A coordinate, with a minus sign before it if it is below 0.
 fn put_integer(out: &mut [u8], at: usize, c: Centimetres) -> usize
     requires { ⌜ at + 6 ≤ length (now out) ⌝ }
-    ensures { λ r. ⌜ (r ≡ at + length (integer (c .0))) × (r ≤ at + 6) × (now (out .exit) ≡ sets (now (out .entry)) at (integer (c .0))) ⌝ }
+    ensures { λ r. ⌜ Stored (now (out .entry)) at (now (out .exit)) r (integer (c .0)) × (r ≤ at + 6) ⌝ }
 {
     let z = c.0 as i32;
     if z < 0 {
@@ -36,7 +37,7 @@ fn put_integer(out: &mut [u8], at: usize, c: Centimetres) -> usize
 // A word.
 fn put_word(out: &mut [u8], at: usize, word: &[u8]) -> usize
     requires { ⌜ at + length (now word) ≤ length (now out) ⌝ }
-    ensures { λ r. ⌜ (r ≡ at + length (now (word .entry))) × (now (out .exit) ≡ sets (now (out .entry)) at (now (word .entry))) ⌝ }
+    ensures { λ r. ⌜ Stored (now (out .entry)) at (now (out .exit)) r (now (word .entry)) ⌝ }
 {
     let mut k = 0;
     while k < word.len() {
@@ -44,4 +45,52 @@ fn put_word(out: &mut [u8], at: usize, word: &[u8]) -> usize
         k += 1;
     }
     at + k
+}
+
+// The line of a fix, at most 29 bytes.
+fn put_fix_line(out: &mut [u8], at: usize, f: Fix) -> usize
+    requires { ⌜ at + 29 ≤ length (now out) ⌝ }
+    ensures { λ r. ⌜ Stored (now (out .entry)) at (now (out .exit)) r (fix-line (fixOf f)) × (r ≤ at + 29) ⌝ }
+{
+    let t = f.t;
+    let time = put_word(out, at, b"fix ");
+    let gap = put_decimal(out, time, t.0);
+    let x = put_word(out, gap, b" ");
+    let second = put_integer(out, x, f.x);
+    let y = put_word(out, second, b" ");
+    let end = put_integer(out, y, f.y);
+    put_word(out, end, b"\n")
+}
+
+// The mark, at most five bytes.
+fn put_mark(out: &mut [u8], at: usize, mark: u32) -> usize
+    requires { ⌜ (mark < 65536) × (at + 5 ≤ length (now out)) ⌝ }
+    ensures { λ r. ⌜ Stored (now (out .entry)) at (now (out .exit)) r (mark-text mark) × (r ≤ at + 5) ⌝ }
+{
+    if mark == 65535 {
+        return put_word(out, at, b"never");
+    }
+    put_decimal(out, at, mark)
+}
+
+// The first line of a record's text, at most 17 bytes.
+fn put_first_line(out: &mut [u8], count: u32, mark: u32) -> usize
+    requires { ⌜ (count ≤ 4096) × (mark < 65536) × (17 ≤ length (now out)) ⌝ }
+    ensures { λ r. ⌜ Stored (now (out .entry)) 0 (now (out .exit)) r (first-line count mark) × (r ≤ 17) ⌝ }
+{
+    let number = put_word(out, 0, b"trail ");
+    let gap = put_decimal(out, number, count);
+    let at = put_word(out, gap, b" ");
+    let end = put_mark(out, at, mark);
+    put_word(out, end, b"\n")
+}
+
+// The one line of a refusal.
+fn put_refusal(out: &mut [u8], k: u8) -> usize
+    requires { ⌜ 12 ≤ length (now out) ⌝ }
+    ensures { λ r. ⌜ Stored (now (out .entry)) 0 (now (out .exit)) r (refusal-line k) × (r ≤ 12) ⌝ }
+{
+    let number = put_word(out, 0, b"refused ");
+    let end = put_decimal(out, number, k as u32);
+    put_word(out, end, b"\n")
 }

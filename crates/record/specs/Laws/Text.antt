@@ -13,13 +13,25 @@ use lib.Signed.{nonNeg, ltZ}
 use mir.Syntax.{w16, w32}
 use mir.Val.{Fits, SFits}
 use lib.IntN.{ℤ, pos, negsuc, natAbs, _-ℤ_}
-use borrow.Author.Tests.{lt-ltb, le-ltb, ltb-true, ltb-false}
+use borrow.Author.Tests.{lt-ltb, le-ltb, eq-eqb, ne-eqb}
+use Rattle.distance.specs.Fix.{Fix}
 use Rattle.distance.specs.Integers.Order.{ltZ-false, zero-le}
 use Rattle.distance.specs.Integers.Bounds.{Bound, _⊝_, of-width, fits}
 use Rattle.distance.specs.Integers.Tests.{Test, holds, fails, test}
-use Rattle.record.specs.Text.{digit, digits, decimal, integer}
+use Rattle.record.specs.Text.{space, line-end, fix-word, digit, digits, decimal, integer, fix-line, trail-word, never-word, refused-word, mark-text, first-line, refusal-line}
 use Rattle.record.specs.Laws.Numbers.{false-true}
 use Rattle.record.specs.Laws.Stores.{sets-then}
+
+-- ---- text put down piece by piece: the buffer b became c, with l from `at` on, and r is where it ends
+pub record Stored (b : List ℕ) (at : ℕ) (c : List ℕ) (r : ℕ) (l : List ℕ) : Type 0 where
+  pub ends : r ≡ at + length l
+  pub holds-it : c ≡ sets b at l
+
+pub stored-then : {b c d l m : List ℕ} {at r s : ℕ} → Stored b at c r l → Stored c r d s m → Stored b at d s (l ++ m)
+stored-then {b} {c} {d} {l} {m} {at} {r} {s} p q = record {
+  ends = q .ends ∙ rw (p .ends, length-append l m) (omega arith);
+  holds-it = q .holds-it ∙ rw (p .holds-it) (sets-then b at l r m (p .ends));
+}
 
 -- one digit, or the digits before the last and the last: whatever the depth, if it is enough
 one-digit : (k n : ℕ) → n < 10 → digits k n ≡ digit n ∷ []
@@ -96,7 +108,7 @@ pub record Magnitude (z u : ℤ) : Type 0 where
   pub fits32 : Fits w32 (natAbs u)
   pub five : length (decimal (natAbs u)) ≤ 5
 
-five-digits : (n : ℕ) → n < 100000 → length (decimal n) ≤ 5
+pub five-digits : (n : ℕ) → n < 100000 → length (decimal n) ≤ 5
 five-digits n h = decimal-short 4 n h
 
 pub below-zero : (z : ℤ) → SFits w16 z → ltZ z (pos 0) ≡ true → Magnitude z (pos 0 -ℤ z) × (integer z ≡ 45 ∷ decimal (natAbs (pos 0 -ℤ z)))
@@ -113,9 +125,33 @@ from-zero (pos n) f h = let small : n < 32768 = f .sfits in (record { not-negati
 from-zero (negsuc n) f h = absurd (false-true (sym h))
 
 pub store-sign : (b c : List ℕ) (at m r : ℕ) (z : ℤ) → integer z ≡ 45 ∷ decimal m → length (decimal m) ≤ 5 → r ≡ at + 1 + length (decimal m) → c ≡ sets (set b at 45) (at + 1) (decimal m)
-    → (r ≡ at + length (integer z)) × (r ≤ at + 6) × (c ≡ sets b at (integer z))
-store-sign b c at m r z e five h g = (rw e (omega arith), omega arith, rw (g, e, add-one) refl)
+    → Stored b at c r (integer z) × (r ≤ at + 6)
+store-sign b c at m r z e five h g = (record { ends = rw e (omega arith); holds-it = rw (g, e, add-one) refl }, omega arith)
 
 pub store-plain : (b c : List ℕ) (at m r : ℕ) (z : ℤ) → integer z ≡ decimal m → length (decimal m) ≤ 5 → r ≡ at + length (decimal m) → c ≡ sets b at (decimal m)
-    → (r ≡ at + length (integer z)) × (r ≤ at + 6) × (c ≡ sets b at (integer z))
-store-plain b c at m r z e five h g = (rw e h, omega arith, rw e g)
+    → Stored b at c r (integer z) × (r ≤ at + 6)
+store-plain b c at m r z e five h g = (record { ends = rw e h; holds-it = rw e g }, omega arith)
+
+pub ten-digits : (n : ℕ) → n < 4294967296 → length (decimal n) ≤ 10
+ten-digits n h = decimal-short 9 n (omega arith)
+
+-- the lines, as they are put down
+pub fix-line-is : (f : Fix) → fix-line f ≡ fix-word ++ (decimal (f .t) ++ ((space ∷ []) ++ (integer (f .x) ++ ((space ∷ []) ++ (integer (f .y) ++ (line-end ∷ []))))))
+unfolding fix-line
+fix-line-is f = refl
+
+pub first-line-is : (count mark : ℕ) → first-line count mark ≡ trail-word ++ (decimal count ++ ((space ∷ []) ++ (mark-text mark ++ (line-end ∷ []))))
+unfolding first-line
+first-line-is count mark = refl
+
+pub refusal-line-is : (k : ℕ) → refusal-line k ≡ refused-word ++ (decimal k ++ (line-end ∷ []))
+unfolding refusal-line
+refusal-line-is k = refl
+
+pub mark-never : (mark : ℕ) → mark ≡ 65535 → mark-text mark ≡ never-word
+unfolding mark-text
+mark-never mark h = rw (eq-eqb mark 65535 h) refl
+
+pub mark-number : (mark : ℕ) → (mark ≡ 65535 → ⊥) → mark-text mark ≡ decimal mark
+unfolding mark-text
+mark-number mark h = rw (ne-eqb mark 65535 h) refl

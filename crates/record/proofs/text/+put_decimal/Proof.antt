@@ -66,7 +66,7 @@ put-decimal-returns : (t : ℕ) → put-decimal-lts.Need-returns (
   put-decimal-below t,
   put-decimal.Post,
 ) (put-decimal-at t) put-decimal.Post
-put-decimal-returns t c = let h = length-one (c .before .before .args .n) (c .if1 .taken) in (omega arith, store-one _ _ _ (c .if1 .taken))
+put-decimal-returns t c = let h = length-one (c .before .before .args .n) (c .if1 .taken) in record { ends = omega arith; holds-it = store-one _ _ _ (c .if1 .taken) }
 
 -- src/text.rt:17:9
 put-decimal-put-decimal-requires : (t : ℕ) → put-decimal-lts.Need-put-decimal-requires (
@@ -94,14 +94,14 @@ put-decimal-slice-write-out-2 : (t : ℕ) → put-decimal-lts.Need-slice-write-o
   put-decimal-below t,
   put-decimal.Post,
 ) (put-decimal-at t) put-decimal.Post
-put-decimal-slice-write-out-2 t c = let h = length-last (c .before .before .before .before .before .before .args .n) (c .before .before .before .before .if1 .left) in let e = c .before .before .put-decimal .ensures .0 in let l = ap length (c .before .before .put-decimal .ensures .1) ∙ length-sets (now (c .before .before .before .before .before .before .args .out)) (c .before .before .before .before .before .before .args .at) (decimal (c .before .before .before .before .before .before .args .n / 10)) in omega arith
+put-decimal-slice-write-out-2 t c = let h = length-last (c .before .before .before .before .before .before .args .n) (c .before .before .before .before .if1 .left) in let e = c .before .before .put-decimal .ensures .ends in let l = ap length (c .before .before .put-decimal .ensures .holds-it) ∙ length-sets (now (c .before .before .before .before .before .before .args .out)) (c .before .before .before .before .before .before .args .at) (decimal (c .before .before .before .before .before .before .args .n / 10)) in omega arith
 
 -- src/text.rt:19:5
 put-decimal-add-result-2 : (t : ℕ) → put-decimal-lts.Need-add-result-2 (
   put-decimal-below t,
   put-decimal.Post,
 ) (put-decimal-at t) put-decimal.Post
-put-decimal-add-result-2 t c = let h = length-last (c .before .before .before .before .before .before .args .n) (c .before .before .before .before .if1 .left) in let e = c .before .before .put-decimal .ensures .0 in let l = ap length (c .before .before .put-decimal .ensures .1) ∙ length-sets (now (c .before .before .before .before .before .before .args .out)) (c .before .before .before .before .before .before .args .at) (decimal (c .before .before .before .before .before .before .args .n / 10)) in search needs
+put-decimal-add-result-2 t c = let h = length-last (c .before .before .before .before .before .before .args .n) (c .before .before .before .before .if1 .left) in let e = c .before .before .put-decimal .ensures .ends in let l = ap length (c .before .before .put-decimal .ensures .holds-it) ∙ length-sets (now (c .before .before .before .before .before .before .args .out)) (c .before .before .before .before .before .before .args .at) (decimal (c .before .before .before .before .before .before .args .n / 10)) in search needs
 
 -- src/text.rt:9:1
 put-decimal-same-length-2 : (t : ℕ) → put-decimal-lts.Need-same-length-2 (
@@ -115,7 +115,7 @@ put-decimal-returns-2 : (t : ℕ) → put-decimal-lts.Need-returns-2 (
   put-decimal-below t,
   put-decimal.Post,
 ) (put-decimal-at t) put-decimal.Post
-put-decimal-returns-2 t c = let h = length-last (c .before .before .before .before .before .before .args .n) (c .before .before .before .before .if1 .left) in let e = c .before .before .put-decimal .ensures .0 in let l = ap length (c .before .before .put-decimal .ensures .1) ∙ length-sets (now (c .before .before .before .before .before .before .args .out)) (c .before .before .before .before .before .before .args .at) (decimal (c .before .before .before .before .before .before .args .n / 10)) in (omega arith, store-last _ _ _ _ _ (c .before .before .before .before .if1 .left) e (c .before .before .put-decimal .ensures .1))
+put-decimal-returns-2 t c = let h = length-last (c .before .before .before .before .before .before .args .n) (c .before .before .before .before .if1 .left) in let e = c .before .before .put-decimal .ensures .ends in let l = ap length (c .before .before .put-decimal .ensures .holds-it) ∙ length-sets (now (c .before .before .before .before .before .before .args .out)) (c .before .before .before .before .before .before .args .at) (decimal (c .before .before .before .before .before .before .args .n / 10)) in record { ends = omega arith; holds-it = store-last _ _ _ _ _ (c .before .before .before .before .if1 .left) e (c .before .before .put-decimal .ensures .holds-it) }
 
 pub +put-decimal-spec : {M : Type 1} → statement M
 +put-decimal-spec = close μ-put-decimal λ t. put-decimal-lts.spec (

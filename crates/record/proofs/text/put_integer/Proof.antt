@@ -41,14 +41,14 @@ put-decimal-requires c κs = let k = ranges (c .before .before .before .before .
 
 -- src/text.rt:31:9
 same-length : tie.Need-same-length
-same-length c = let k = ranges (c .before .before .before .before .before .before .before .before) in ap length (c .before .before .put-decimal .ensures .1) ∙ simp (length-sets, length-set)
+same-length c = let k = ranges (c .before .before .before .before .before .before .before .before) in ap length (c .before .before .put-decimal .ensures .holds-it) ∙ simp (length-sets, length-set)
 
 -- src/text.rt:31:9
 returns : tie.Need-returns
 returns c =
     let k = ranges (c .before .before .before .before .before .before .before .before) in
     let m = below-zero (c .before .before .before .before .before .before .before .before .args .c .0) (k .z16) (simp (toZ-ofZ, k .z16, k .z32) at (c .before .before .before .before .if1 .taken)) in
-    store-sign (now (c .before .before .before .before .before .before .before .before .args .out)) _ _ _ _ _ (m .1) (m .0 .five) (simp (toZ-ofZ, k .z16, k .z32, k .minus32) at (c .before .before .put-decimal .ensures .0)) (simp (toZ-ofZ, k .z16, k .z32, k .minus32) at (c .before .before .put-decimal .ensures .1))
+    store-sign (now (c .before .before .before .before .before .before .before .before .args .out)) _ _ _ _ _ (m .1) (m .0 .five) (simp (toZ-ofZ, k .z16, k .z32, k .minus32) at (c .before .before .put-decimal .ensures .ends)) (simp (toZ-ofZ, k .z16, k .z32, k .minus32) at (c .before .before .put-decimal .ensures .holds-it))
 
 -- src/text.rt:33:26
 cast-put-decimal-2 : tie.Need-cast-put-decimal-2
@@ -67,7 +67,7 @@ returns-2 : tie.Need-returns-2
 returns-2 c =
     let k = ranges (c .before .before .before .before .before .before .before .before) in
     let m = from-zero (c .before .before .before .before .before .before .before .before .args .c .0) (k .z16) (simp (toZ-ofZ, k .z16, k .z32) at (c .before .before .before .before .if1 .left)) in
-    store-plain (now (c .before .before .before .before .before .before .before .before .args .out)) _ _ _ _ _ (m .1) (m .0 .five) (simp (toZ-ofZ, k .z16, k .z32) at (c .before .before .put-decimal2 .ensures .0)) (simp (toZ-ofZ, k .z16, k .z32) at (c .before .before .put-decimal2 .ensures .1))
+    store-plain (now (c .before .before .before .before .before .before .before .before .args .out)) _ _ _ _ _ (m .1) (m .0 .five) (simp (toZ-ofZ, k .z16, k .z32) at (c .before .before .put-decimal2 .ensures .ends)) (simp (toZ-ofZ, k .z16, k .z32) at (c .before .before .put-decimal2 .ensures .holds-it))
 
 pub put-integer-spec : {M : Type 1} → statement M
 put-integer-spec =

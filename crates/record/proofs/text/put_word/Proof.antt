@@ -60,7 +60,7 @@ returns : tie.Need-returns Inv-loop μ-loop
 returns c =
     let i = c .before .loop .inv in
     let e : c .before .loop .k ≡ length (now (c .before .before .args .word)) = omega arith in
-    (omega arith, i .2 ∙ ap (sets (now (c .before .before .args .out)) (c .before .before .args .at)) (take-all (c .before .loop .k) (now (c .before .before .args .word)) (omega arith)))
+    record { ends = omega arith; holds-it = i .2 ∙ ap (sets (now (c .before .before .args .out)) (c .before .before .args .at)) (take-all (c .before .loop .k) (now (c .before .before .args .word)) (omega arith)) }
 
 pub put-word-spec : {M : Type 1} → statement M
 put-word-spec =
