@@ -71,13 +71,12 @@ mark-text m = cond (eqb m never) never-word (decimal m)
 unfoldable pub first-line : (count mark : ℕ) → List ℕ
 first-line count mark = trail-word ++ (decimal count ++ (space ∷ (mark-text mark ++ (line-end ∷ []))))
 
+unfoldable pub record-text : (count mark : ℕ) → List Fix → List ℕ
+record-text count mark l = first-line count mark ++ (fix-lines l ++ end-line)
+
 unfoldable pub refusal-line : ℕ → List ℕ
 refusal-line k = refused-word ++ (decimal k ++ (line-end ∷ []))
 
 -- The whole text of lent bytes: of the record, or of its refusal.
 unfoldable pub text : Kind → List ℕ → List ℕ
-text K b = text-if (read-refusal K b)
-  where
-    text-if : Option ℕ → List ℕ
-    text-if none = first-line (count-field b) (mark-field b) ++ (fix-lines (fixes K b) ++ end-line)
-    text-if (some k) = refusal-line k
+text K b = elim (read-refusal K b) [ none ↦ record-text (count-field b) (mark-field b) (fixes K b) | some k ↦ refusal-line k ]

@@ -1,6 +1,8 @@
 // The record layer: the byte format of a trail, the checks that every call makes of it, its reader, writer and listing.
 mod text;
 
+pub use text::list;
+
 use distance::Centimetres;
 use distance::Fix;
 use distance::Seconds;
@@ -11,7 +13,7 @@ ghost use lib.ListN.{length};
 ghost use lib.Seq.{sets};
 ghost use Rattle.distance.specs.Fix.{Fix as Plain, fixOf};
 ghost use Rattle.record.specs.Bytes.{number-at, bytes-of, signed, unsigned};
-ghost use Rattle.record.specs.Format.{trail, count-field, fix-at, each, fix-bytes, all-bytes, header-bytes};
+ghost use Rattle.record.specs.Format.{trail, mark-field, count-field, fix-at, each, fix-bytes, all-bytes, header-bytes};
 ghost use Rattle.record.specs.Checks.{Asked, sentence, first, asked-of, nothing, head-checks, fix-checks, read-refusal, refusal, writing, outside, fix-outside};
 ghost use Rattle.record.specs.Reading.{stands, yields, moves};
 ghost use Rattle.record.specs.Writing.{asked-to-write, column-fix, columns, write-answer, written};
@@ -181,6 +183,14 @@ fn count_at(b: &[u8]) -> usize
     ensures { λ r. ⌜ (r ≡ count-field (now (b .entry))) × (r < 65536) ⌝ }
 {
     two_at(b, 8) as usize
+}
+
+// The mark that the record's head says.
+fn mark_at(b: &[u8]) -> u32
+    requires { ⌜ 10 ≤ length (now b) ⌝ }
+    ensures { λ r. ⌜ (r ≡ mark-field (now (b .entry))) × (r < 65536) ⌝ }
+{
+    two_at(b, 6)
 }
 
 // The pass over n fixes.

@@ -1,10 +1,18 @@
 // The listing: a record as text.
-ghost use Prim.Native.Nat.{_+_, _≤_, _<_};
-ghost use lib.ListN.{length};
+ghost use mathlib.Core.Path.{_≡_};
+ghost use mathlib.Core.List.{_++_};
+ghost use Prim.Native.Nat.{_+_, _*_, _≤_, _<_};
+ghost use lib.ListN.{length, drop};
 ghost use Rattle.distance.specs.Fix.{fixOf};
-ghost use Rattle.record.specs.Text.{decimal, integer, fix-line, mark-text, first-line, refusal-line};
+ghost use Rattle.record.specs.Text.{decimal, integer, fix-line, fix-lines, mark-text, first-line, refusal-line, record-text, text};
+ghost use Rattle.record.specs.Format.{trail, fix-at, each};
 ghost use Rattle.record.specs.Laws.Text.{Stored};
 use distance::Centimetres;
+use crate::Checked;
+use crate::check;
+use crate::count_at;
+use crate::fix_at;
+use crate::mark_at;
 use distance::Fix;
 
 // A number in decimal: the digits before the last, by itself, and then the last.
@@ -93,4 +101,39 @@ fn put_refusal(out: &mut [u8], k: u8) -> usize
     let number = put_word(out, 0, b"refused ");
     let end = put_decimal(out, number, k as u32);
     put_word(out, end, b"\n")
+}
+
+// The lines of n fixes.
+fn put_fix_lines(out: &mut [u8], at: usize, b: &[u8], n: usize) -> usize
+    requires { ⌜ (n ≤ 4096) × (10 + 8 * n ≤ length (now b)) × (at + 29 * n ≤ length (now out)) ⌝ }
+    ensures { λ r. ⌜ Stored (now (out .entry)) at (now (out .exit)) r (fix-lines (each (fix-at trail (now (b .entry))) 0 n)) × (r ≤ at + 29 * n) ⌝ }
+{
+    let mut end = at;
+    let mut k = 0;
+    while k < n {
+        end = put_fix_line(out, end, fix_at(b, k));
+        k += 1;
+    }
+    end
+}
+
+// The text of a record of n fixes.
+fn put_record(out: &mut [u8], b: &[u8], n: usize, mark: u32) -> usize
+    requires { ⌜ (n ≤ 4096) × (10 + 8 * n ≤ length (now b)) × (mark < 65536) × (118805 ≤ length (now out)) ⌝ }
+    ensures { λ r. ⌜ Stored (now (out .entry)) 0 (now (out .exit)) r (record-text n mark (each (fix-at trail (now (b .entry))) 0 n)) × (r ≤ 118805) ⌝ }
+{
+    let first = put_first_line(out, n as u32, mark);
+    let last = put_fix_lines(out, first, b, n);
+    put_word(out, last, b"end\n")
+}
+
+// The text of lent bytes, at the start of the output, and its length. The longest record's text takes 118,805 bytes.
+pub fn list(b: &[u8], out: &mut [u8; 118805]) -> usize
+    ensures { λ r. ⌜ (r ≡ length (text trail (now (b .entry)))) × (r ≤ 118805) × (now (out .exit) ≡ text trail (now (b .entry)) ++ drop r (now (out .entry))) ⌝ }
+{
+    let v = check(b);
+    match v {
+        Checked::Refused(k) => put_refusal(out, k),
+        Checked::Accepted => put_record(out, b, count_at(b), mark_at(b)),
+    }
 }

@@ -69,6 +69,15 @@ module _ (says : Check → Bool) where
       go true h r = h
       go false h r = r h
 
+  pub none-front : (l m : List Check) → first says (l ++ m) ≡ none → first says l ≡ none
+  unfolding first
+  none-front [] m h = refl
+  none-front (c ∷ l) m h = go (says c) h (none-front l m)
+    where
+      go : (b : Bool) → cond b (some (number c)) (first says (l ++ m)) ≡ none → (first says (l ++ m) ≡ none → first says l ≡ none) → cond b (some (number c)) (first says l) ≡ none
+      go true h r = absurd (some-none h)
+      go false h r = r h
+
   -- nothing is turned away exactly if no sentence holds
   pub none-holds : (l : List Check) → first says l ≡ none → NoneHolds l
   unfolding first

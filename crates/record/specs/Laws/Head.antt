@@ -9,8 +9,8 @@ use lib.Dec.{ltb, eqb}
 use lib.ListN.{length}
 use borrow.Author.Tests.{lt-ltb, le-ltb, eq-eqb, ne-eqb, ltb-true, ltb-false, eqb-true, eqb-false, not-true, not-false}
 use Rattle.record.specs.Format.{trail, length-field, kind-field, mark-field, count-field}
-use Rattle.record.specs.Checks.{Check, few-bytes, other-kind, bad-count, bad-length, short-record, bad-mark, first, sentence, asked-of, nothing, head-checks, Given}
-use Rattle.record.specs.Laws.First.{stops, passes, NoneHolds, no-check, and-not, none-holds}
+use Rattle.record.specs.Checks.{Check, few-bytes, other-kind, bad-count, bad-length, short-record, bad-mark, first, sentence, asked-of, nothing, head-checks, fix-checks, read-refusal}
+use Rattle.record.specs.Laws.First.{stops, passes, NoneHolds, no-check, and-not, none-holds, none-front}
 
 -- the checks from the sixth on, from the fifth on, and so on
 abbrev pub from-6 : List Check
@@ -134,3 +134,7 @@ head-passed b h = go (none-holds (says b) head-checks h)
           length-is = len;
           whole = omega arith;
         }
+
+-- an accepted record has a good head, and nothing is wrong with its fixes
+pub accepted-head : (b : List ℕ) → read-refusal trail b ≡ none → Head b
+accepted-head b h = head-passed b (none-front (says b) head-checks fix-checks h)

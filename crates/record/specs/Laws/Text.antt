@@ -1,12 +1,13 @@
 -- Laws of the listing's text: decimal numbers digit by digit, and how long the text can be.
 use mathlib.Core.Path.{_≡_, refl, sym, _∙_, ap}
 use mathlib.Core.Bool.{Bool, true, false, cond}
-use mathlib.Core.List.{List, [], _∷_, _++_}
+use mathlib.Core.List.{List, [], _∷_, _++_, append-nil, append-assoc}
 use Prim.Native.Nat.{ℕ, zero, suc, _+_, _*_, _/_, _%_, _^_, _<_, _≤_}
 use native.Mathlib.Omega.{arith}
 use lib.Dec.{T}
-use lib.ListN.{length, getD, take, set, length-append}
-use lib.Seq.{sets, length-take-le, take-suc}
+use mathlib.Core.Option.{some, none}
+use lib.ListN.{length, getD, take, drop, set, length-append}
+use lib.Seq.{sets, length-sets, length-take-le, take-suc}
 use native.Mathlib.Nat.{pow-suc}
 use native.Mathlib.Numerals.{add-one}
 use lib.Signed.{nonNeg, ltZ}
@@ -18,9 +19,12 @@ use Rattle.distance.specs.Fix.{Fix}
 use Rattle.distance.specs.Integers.Order.{ltZ-false, zero-le}
 use Rattle.distance.specs.Integers.Bounds.{Bound, _⊝_, of-width, fits}
 use Rattle.distance.specs.Integers.Tests.{Test, holds, fails, test}
-use Rattle.record.specs.Text.{space, line-end, fix-word, digit, digits, decimal, integer, fix-line, trail-word, never-word, refused-word, mark-text, first-line, refusal-line}
+use Rattle.record.specs.Text.{space, line-end, fix-word, digit, digits, decimal, integer, fix-line, fix-lines, trail-word, never-word, refused-word, end-line, mark-text, first-line, refusal-line, record-text, text}
+use Rattle.record.specs.Checks.{read-refusal}
 use Rattle.record.specs.Laws.Numbers.{false-true}
-use Rattle.record.specs.Laws.Stores.{sets-then}
+use Rattle.record.specs.Format.{trail, mark-field, count-field, fixes, each}
+use Rattle.record.specs.Laws.Each.{each-more}
+use Rattle.record.specs.Laws.Stores.{sets-then, sets-front}
 
 -- ---- text put down piece by piece: the buffer b became c, with l from `at` on, and r is where it ends
 pub record Stored (b : List ℕ) (at : ℕ) (c : List ℕ) (r : ℕ) (l : List ℕ) : Type 0 where
@@ -32,6 +36,9 @@ stored-then {b} {c} {d} {l} {m} {at} {r} {s} p q = record {
   ends = q .ends ∙ rw (p .ends, length-append l m) (omega arith);
   holds-it = q .holds-it ∙ rw (p .holds-it) (sets-then b at l r m (p .ends));
 }
+
+pub stored-length : {b c l : List ℕ} {at r : ℕ} → Stored b at c r l → length c ≡ length b
+stored-length {b} {c} {l} {at} p = ap length (p .holds-it) ∙ length-sets b at l
 
 -- one digit, or the digits before the last and the last: whatever the depth, if it is enough
 one-digit : (k n : ℕ) → n < 10 → digits k n ≡ digit n ∷ []
@@ -155,3 +162,38 @@ mark-never mark h = rw (eq-eqb mark 65535 h) refl
 pub mark-number : (mark : ℕ) → (mark ≡ 65535 → ⊥) → mark-text mark ≡ decimal mark
 unfolding mark-text
 mark-number mark h = rw (ne-eqb mark 65535 h) refl
+
+-- ---- the lines of a list of fixes, one after another
+fix-lines-more : (l : List Fix) (f : Fix) → fix-lines (l ++ f ∷ []) ≡ fix-lines l ++ fix-line f
+unfolding fix-lines
+fix-lines-more [] f = append-nil (fix-line f)
+fix-lines-more (g ∷ l) f = ap (λ (m : List ℕ). fix-line g ++ m) (fix-lines-more l f) ∙ sym (append-assoc (fix-line g) (fix-lines l) (fix-line f))
+
+pub lines-none : (b : List ℕ) (at : ℕ) (f : ℕ → Fix) → Stored b at b at (fix-lines (each f 0 0))
+unfolding each fix-lines
+lines-none b at f = record { ends = omega arith; holds-it = refl }
+
+pub lines-more : {b c d : List ℕ} {at r s : ℕ} (f : ℕ → Fix) (a : Fix) (k : ℕ) → a ≡ f k → Stored b at c r (fix-lines (each f 0 k)) → Stored c r d s (fix-line a)
+    → Stored b at d s (fix-lines (each f 0 (k + 1)))
+lines-more f a k e p q =
+    let n : 0 + k ≡ k = omega arith in
+    rw (add-one, each-more f 0 k, n, fix-lines-more (each f 0 k) (f k), ← e) (stored-then p q)
+
+pub record-text-is : (count mark : ℕ) (l : List Fix) → record-text count mark l ≡ first-line count mark ++ (fix-lines l ++ end-line)
+unfolding record-text
+record-text-is count mark l = refl
+
+-- ---- the whole text
+pub text-record : (b : List ℕ) → read-refusal trail b ≡ none → text trail b ≡ record-text (count-field b) (mark-field b) (fixes trail b)
+unfolding text
+text-record b h = rw (h, text) refl
+
+pub text-refusal : (b : List ℕ) (k : ℕ) → read-refusal trail b ≡ some k → text trail b ≡ refusal-line k
+unfolding text
+text-refusal b k h = rw (h, text) refl
+
+-- at the start of an output that is long enough
+pub listed : {b c l : List ℕ} {r : ℕ} (t : List ℕ) → t ≡ l → Stored b 0 c r l → r ≤ length b → (r ≡ length t) × (c ≡ t ++ drop r b)
+listed {b} {c} {l} {r} t e p h =
+    let n : r ≡ length l = omega (arith, p .ends) in
+    (n ∙ ap length (sym e), p .holds-it ∙ sets-front b l (omega arith) ∙ rw (e, n) refl)
