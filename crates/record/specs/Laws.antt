@@ -8,3 +8,5 @@ pub mod Reading
 pub mod Stores
 pub mod Writing
 pub mod Text
+pub mod RoundTrip
+pub mod Accepted

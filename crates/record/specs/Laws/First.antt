@@ -22,6 +22,10 @@ module _ (says : Check → Bool) where
   unfolding first
   passes c l h = rw h refl
 
+  pub first-none : first says [] ≡ none
+  unfolding first
+  first-none = refl
+
   -- all of these sentences are false
   pub data NoneHolds : List Check → Type 0 where
     no-check : NoneHolds []

@@ -94,6 +94,10 @@ module _ (b : List ℕ) where
   unfolding sentence
   mark-low h = rw (le-ltb _ _ h) refl
 
+  pub mark-says : says b bad-mark ≡ false → ltb 32000 (mark-field b) && not (eqb (mark-field b) 65535) ≡ false
+  unfolding sentence
+  mark-says h = h
+
 -- what bytes that pass them have
 pub record Head (b : List ℕ) : Type 0 where
   pub ten : 10 ≤ length b

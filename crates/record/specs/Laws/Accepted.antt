@@ -1,0 +1,148 @@
+-- What an accepted record gives, and when a record is accepted: its head, its mark, and its fixes.
+use mathlib.Core.Path.{_≡_, refl, sym, _∙_, ap}
+use mathlib.Core.Bool.{Bool, true, false, not, _||_, _&&_}
+use mathlib.Core.List.{List, [], _∷_, _++_}
+use mathlib.Core.Option.{Option, some, none}
+use Prim.Native.Nat.{ℕ, _+_, _*_, _<_, _≤_}
+use native.Mathlib.Omega.{arith}
+use lib.Dec.{ltb, leb, eqb}
+use lib.ListN.{length}
+use borrow.Author.Tests.{ltb-false, eqb-true, leb-false, lt-leb, lt-ltb, not-false}
+use lib.IntN.{ℤ, pos, negℤ}
+use lib.Signed.{ltZ, _≤ℤ_, ltZ-no}
+use Rattle.distance.specs.Fix.{Fix, Placed, After, none-after, later, Rising, no-fix, rising}
+use Rattle.distance.specs.Distance.{seconds}
+use Rattle.distance.specs.Laws.All.{All, all-none, all-more}
+use Rattle.distance.specs.Integers.Differences.{diffs}
+use Rattle.distance.specs.Integers.Order.{ltZ-false, le-of-ltZ}
+use Rattle.record.specs.Format.{trail, length-field, kind-field, mark-field, count-field, fixes}
+use Rattle.record.specs.Checks.{Asked, Check, few-bytes, other-kind, bad-count, bad-length, short-record, bad-mark, misplaced, unordered, long-span, sentence, first, head-checks, fix-checks, asked-of, nothing, read-refusal, IsAccepted, outside, fix-outside, some-outside, some-early-after, some-early, last-fix, of-ends, too-long}
+use Rattle.record.specs.Laws.First.{passes, NoneHolds, no-check, and-not, none-holds, none-first, none-front, first-none}
+use Rattle.record.specs.Laws.Head.{Head, says, neither, accepted-head, not-few, not-other, count-good, length-same, not-short, mark-low, mark-never, mark-says, from-2, from-3, from-4, from-5, from-6}
+use Rattle.record.specs.Laws.Numbers.{false-true}
+use Rattle.record.specs.Laws.RoundTrip.{Reads}
+use Rattle.distance.specs.Integers.Tests.{Test, holds, fails, test}
+
+-- ---- the fixes: checks 7 to 9 turn none away
+pub record GoodFixes (l : List Fix) : Type 0 where
+  pub inside : some-outside 16000 l ≡ false
+  pub ordered : some-early l ≡ false
+  pub short : of-ends too-long l ≡ false
+
+pub fixes-good : (q : Asked) → first (sentence trail q) fix-checks ≡ none → GoodFixes (q .trail-fixes)
+unfolding sentence
+fixes-good q h = go (none-holds (sentence trail q) fix-checks h)
+  where
+    go : NoneHolds (sentence trail q) fix-checks → GoodFixes (q .trail-fixes)
+    go (and-not h7 (and-not h8 (and-not h9 no-check))) = record { inside = h7; ordered = h8; short = h9 }
+
+pub good-fixes : (q : Asked) → GoodFixes (q .trail-fixes) → first (sentence trail q) fix-checks ≡ none
+unfolding first sentence
+good-fixes q h = rw (h .inside, h .ordered, h .short) refl
+
+-- ---- the mark
+pub data GoodMark (m : ℕ) : Type 0 where
+  applied : m ≤ 32000 → GoodMark m
+  never-applied : m ≡ 65535 → GoodMark m
+
+mark-good : (m : ℕ) → ltb 32000 m && not (eqb m 65535) ≡ false → GoodMark m
+mark-good m h = go (test m 32000)
+  where
+    second : (x y : Bool) → x ≡ true → x && y ≡ false → y ≡ false
+    second true y e h = h
+    second false y e h = absurd (false-true e)
+
+    go : {b : Bool} → Test m 32000 b → GoodMark m
+    go (holds t) = applied t
+    go (fails t) = never-applied (eqb-true m 65535 (not-false _ (second (ltb 32000 m) (not (eqb m 65535)) (lt-ltb 32000 m t) h)))
+
+-- ---- what an accepted record gives
+pub record Good (b : List ℕ) : Type 0 where
+  pub head : Head b
+  pub mark : GoodMark (mark-field b)
+  pub trail-good : GoodFixes (fixes trail b)
+
+pub accepted-good : (b : List ℕ) → IsAccepted trail b → Good b
+accepted-good b h =
+    let none-head = none-front (says b) head-checks fix-checks (h .accepted) in
+    record {
+      head = accepted-head b (h .accepted);
+      mark = mark-of (none-holds (says b) head-checks none-head);
+      trail-good = fixes-good (asked-of trail b nothing) (sym (none-first (says b) head-checks fix-checks none-head) ∙ h .accepted);
+    }
+  where
+    mark-of : NoneHolds (says b) head-checks → GoodMark (mark-field b)
+    mark-of (and-not h1 (and-not h2 (and-not h3 (and-not h4 (and-not h5 (and-not h6 no-check)))))) = mark-good (mark-field b) (mark-says b h6)
+
+-- ---- a record that reads so is accepted
+mark-passes : (b : List ℕ) → GoodMark (mark-field b) → says b bad-mark ≡ false
+mark-passes b (applied h) = mark-low b h
+mark-passes b (never-applied h) = mark-never b h
+
+pub accept : (mark : ℕ) (l : List Fix) (b : List ℕ) → Reads mark l b → GoodMark mark → 1 ≤ length l → length l ≤ 4096 → 10 + 8 * length l ≤ length b → GoodFixes l → IsAccepted trail b
+accept mark l b r m one few whole g =
+    let n = r .count-reads in
+    let len = r .length-reads in
+    let some-fix : count-field b ≡ 0 → ⊥ = λ e. omega arith in
+    let same : length-field b ≡ 10 + 8 * count-field b = omega arith in
+    let reads-mark : GoodMark (mark-field b) = rw (r .mark-reads) m in
+    let head : first (says b) head-checks ≡ none =
+        passes (says b) few-bytes from-2 (not-few b (omega arith))
+        ∙ passes (says b) other-kind from-3 (not-other b (r .kind-reads))
+        ∙ passes (says b) bad-count from-4 (count-good b some-fix (omega arith))
+        ∙ passes (says b) bad-length from-5 (length-same b same)
+        ∙ passes (says b) short-record from-6 (not-short b (omega arith))
+        ∙ passes (says b) bad-mark [] (mark-passes b reads-mark) ∙ first-none (says b) in
+    record { accepted = none-first (says b) head-checks fix-checks head ∙ good-fixes (asked-of trail b nothing) (rw (r .fixes-read) g) }
+
+-- ---- the three checks of the fixes, as the layers above use them: places within the limit, times that rise, and a short span
+place-good : (limit : ℕ) (f : Fix) → fix-outside limit f ≡ false → Placed limit f
+place-good limit f h =
+    let xy = neither (outside limit (f .x)) (outside limit (f .y)) h in
+    let x = neither (ltZ (f .x) (negℤ (pos limit))) (ltZ (pos limit) (f .x)) (xy .0) in
+    let y = neither (ltZ (f .y) (negℤ (pos limit))) (ltZ (pos limit) (f .y)) (xy .1) in
+    record { x-low = le-of-ltZ (x .0); x-high = le-of-ltZ (x .1); y-low = le-of-ltZ (y .0); y-high = le-of-ltZ (y .1) }
+
+good-place : (limit : ℕ) (f : Fix) → Placed limit f → fix-outside limit f ≡ false
+good-place limit f h = rw (ltZ-false (h .x-low), ltZ-false (h .x-high), ltZ-false (h .y-low), ltZ-false (h .y-high)) refl
+
+pub places-good : (limit : ℕ) (l : List Fix) → some-outside limit l ≡ false → All (Placed limit) l
+unfolding some-outside
+places-good limit [] h = all-none
+places-good limit (f ∷ l) h = let n = neither (fix-outside limit f) (some-outside limit l) h in all-more (place-good limit f (n .0)) (places-good limit l (n .1))
+
+pub good-places : (limit : ℕ) {l : List Fix} → All (Placed limit) l → some-outside limit l ≡ false
+unfolding some-outside
+good-places limit all-none = refl
+good-places limit (all-more {m = f} h t) = rw (good-place limit f h) (good-places limit t)
+
+after-good : (t : ℕ) (l : List Fix) → some-early-after t l ≡ false → After t l
+unfolding some-early-after
+after-good t [] h = none-after
+after-good t (f ∷ l) h = let n = neither (leb (f .t) t) (some-early-after (f .t) l) h in later (leb-false (f .t) t (n .0)) (after-good (f .t) l (n .1))
+
+good-after : {t : ℕ} {l : List Fix} → After t l → some-early-after t l ≡ false
+unfolding some-early-after
+good-after none-after = refl
+good-after {t} (later {a = f} h k) = rw (lt-leb (f .t) t h) (good-after k)
+
+pub times-good : (l : List Fix) → some-early l ≡ false → Rising l
+unfolding some-early
+times-good [] h = no-fix
+times-good (f ∷ l) h = rising (after-good (f .t) l h)
+
+pub good-times : {l : List Fix} → Rising l → some-early l ≡ false
+unfolding some-early
+good-times no-fix = refl
+good-times (rising k) = good-after k
+
+pub span-good : (a : Fix) (l : List Fix) → of-ends too-long (a ∷ l) ≡ false → (last-fix a l) .t ≤ a .t + 65535
+unfolding of-ends
+span-good a l h =
+    let b = last-fix a l in
+    let g : seconds a b ≤ℤ pos 65535 = le-of-ltZ h in
+    omega (arith, simp diffs at g)
+
+pub good-span : (a : Fix) (l : List Fix) → (last-fix a l) .t ≤ a .t + 65535 → of-ends too-long (a ∷ l) ≡ false
+unfolding of-ends
+good-span a l h = ltZ-false {x = pos 65535} {y = seconds a (last-fix a l)} (simp diffs (omega arith))
