@@ -1,7 +1,7 @@
 -- WHAT IS TURNED AWAY, IN CHECKING ORDER. Document 01: "A refusal is its number and nothing more [..]; it is given if its sentence holds and no
 -- earlier check of that operation fails, and never otherwise." (`first-exactly` of Laws/First.antt.)
 use mathlib.Core.Path.{_≡_}
-use mathlib.Core.Bool.{Bool, true, false, cond, not, _||_, _&&_}
+use mathlib.Core.Bool.{Bool, false, cond, not, _||_, _&&_}
 use mathlib.Core.List.{List, [], _∷_}
 use mathlib.Core.Option.{Option, some, none}
 use Prim.Native.Nat.{ℕ, _+_, _*_}

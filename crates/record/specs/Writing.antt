@@ -6,9 +6,8 @@ use Prim.Native.Nat.{ℕ, min}
 use lib.ListN.{length, getD, drop}
 use lib.IntN.{ℤ, pos}
 use Rattle.distance.specs.Fix.{Fix}
-use Rattle.distance.specs.Box.{Box}
 use Rattle.record.specs.Format.{Kind, never, record-length, each, record-bytes}
-use Rattle.record.specs.Checks.{Given, Asked, nothing, refusal, writing}
+use Rattle.record.specs.Checks.{Asked, refusal, writing}
 use Rattle.record.specs.Answers.{Answer, answer, unless}
 
 -- What is asked of a list of fixes. Its checks 3, 7, 8, 9 and 15 look at the count, the fixes and the output, and at nothing else.

@@ -1,11 +1,10 @@
 // The record layer: the byte format of a trail, the checks that every call makes of it, its reader, writer and listing.
 mod text;
 
-pub use text::list;
-
 use distance::Centimetres;
 use distance::Fix;
 use distance::Seconds;
+pub use text::list;
 ghost use mathlib.Core.Path.{_≡_};
 ghost use Prim.Native.Nat.{_+_, _*_, _-_, _<_, _≤_, min};
 ghost use mathlib.Core.List.{List, [], _∷_, _++_};

@@ -7,12 +7,12 @@ ghost use Rattle.distance.specs.Fix.{fixOf};
 ghost use Rattle.record.specs.Text.{decimal, integer, fix-line, fix-lines, mark-text, first-line, refusal-line, record-text, text};
 ghost use Rattle.record.specs.Format.{trail, fix-at, each};
 ghost use Rattle.record.specs.Laws.Text.{Stored};
-use distance::Centimetres;
 use crate::Checked;
 use crate::check;
 use crate::count_at;
 use crate::fix_at;
 use crate::mark_at;
+use distance::Centimetres;
 use distance::Fix;
 
 // A number in decimal: the digits before the last, by itself, and then the last.

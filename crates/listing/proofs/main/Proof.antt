@@ -6,29 +6,19 @@ use lib.Seq.{length-take-le}
 use borrow.Author.Needs.{needs}
 use Rattle.listing.proofs.main.Statement.{statement}
 use Rattle.listing.proofs.main.Tie as tie
-use Rattle.listing.proofs.main.Reads as reads
-use Rattle.listing.proofs.main.Lts as lts
-use Rattle.io.proofs.read_full.Reads as read-full-reads
-use Rattle.io.proofs.write_all.Reads as write-all-reads
-use Rattle.record.proofs.list.Reads as list-reads
 
--- src/main.rt:4:50
 slice-aggregate-read-full : tie.Need-slice-aggregate-read-full
 slice-aggregate-read-full c = search needs
 
--- src/main.rt:4:9
 read-full-requires : tie.Need-read-full-requires
 read-full-requires c κs = search needs
 
--- src/main.rt:6:31
 array-share-prefix-bytes : tie.Need-array-share-prefix-bytes
 array-share-prefix-bytes c = search needs
 
--- src/main.rt:6:31
 slice-aggregate-list : tie.Need-slice-aggregate-list
 slice-aggregate-list c = search needs
 
--- src/main.rt:6:9
 list-requires : tie.Need-list-requires
 list-requires c κs = search needs
 
@@ -36,19 +26,15 @@ list-requires c κs = search needs
 within : (c : tie.After-list) → c .list .result ≤ length (c .list .last .1 .0)
 within c = omega (arith, c .list .ensures .0, simp length-append at (ap length (c .list .ensures .2)))
 
--- src/main.rt:7:40
 array-share-prefix-text : tie.Need-array-share-prefix-text
 array-share-prefix-text c = within c
 
--- src/main.rt:7:40
 slice-aggregate-write-all : tie.Need-slice-aggregate-write-all
 slice-aggregate-write-all c = sym (length-take-le (c .before .list .result) (c .before .list .last .1 .0) (within (c .before)))
 
--- src/main.rt:7:5
 write-all-requires : tie.Need-write-all-requires
 write-all-requires c κs = search needs
 
--- src/main.rt:2:1
 returns : tie.Need-returns
 returns c = search needs
 

@@ -11,22 +11,13 @@ use Rattle.record.specs.Laws.Head.{says, head-passed}
 use borrow.Author.Needs.{needs}
 use Rattle.record.proofs.check.Statement.{statement}
 use Rattle.record.proofs.check.Tie as tie
-use Rattle.record.proofs.check.Reads as reads
-use Rattle.record.proofs.check.Lts as lts
-use Rattle.record.proofs.count_at.Reads as count-at-reads
-use Rattle.record.proofs.head_says.Reads as head-says-reads
-use Rattle.record.proofs.scan_all.Reads as scan-all-reads
-use Rattle.record.proofs.scan_says.Reads as scan-says-reads
 
--- src/lib.rt:199:9
 head-says-requires : tie.Need-head-says-requires
 head-says-requires c κs = search needs
 
--- src/lib.rt:201:26
 enum-known-h : tie.Need-enum-known-h
 enum-known-h c = search needs
 
--- src/lib.rt:202:52
 enum-told : tie.Need-enum-told
 enum-told c = search needs
 
@@ -34,28 +25,23 @@ enum-told c = search needs
 head-none : (c : tie.After-enum-told) → first (says (now (c .before .before .before .before .args .b))) head-checks ≡ none
 head-none c = sym (c .before .before .head-says .ensures) ∙ ap refused (c .enum-told .given .1)
 
--- src/lib.rt:202:52
 count-at-requires : tie.Need-count-at-requires
 count-at-requires c κs = head-passed (now (c .before .before .before .before .args .b)) (head-none c) .ten
 
--- src/lib.rt:202:40
 scan-all-requires : tie.Need-scan-all-requires
 scan-all-requires c κs =
     let h = head-passed (now (c .before .before .before .before .before .args .b)) (head-none (c .before)) in
     let e = c .count-at .ensures .0 in
     (omega (arith, h .some-fix), omega (arith, h .few-fixes), omega (arith, h .whole))
 
--- src/lib.rt:202:30
 scan-says-requires : tie.Need-scan-says-requires
 scan-says-requires c κs = search needs
 
--- src/lib.rt:196:1
 returns : tie.Need-returns
 returns c =
     let b = now (c .before .before .before .before .before .args .b) in
     sym (some-first (says b) head-checks fix-checks _ (sym (c .before .before .before .head-says .ensures) ∙ ap refused (c .before .h .given .1)))
 
--- src/lib.rt:196:1
 returns-2 : tie.Need-returns-2
 returns-2 c =
     let b = now (c .before .before .before .before .before .before .before .args .b) in

@@ -8,36 +8,25 @@ use Rattle.record.specs.Laws.Head.{positive}
 use Rattle.record.specs.Laws.Writing.{none-turned-away}
 use Rattle.record.proofs.columns_say.Statement.{statement}
 use Rattle.record.proofs.columns_say.Tie as tie
-use Rattle.record.proofs.columns_say.Reads as reads
-use Rattle.record.proofs.columns_say.Lts as lts
-use Rattle.record.proofs.scan_columns.Reads as scan-columns-reads
-use Rattle.record.proofs.scan_says.Reads as scan-says-reads
-use Rattle.record.proofs.write_says.Reads as write-says-reads
 
--- src/lib.rt:367:9
 write-says-requires : tie.Need-write-says-requires
 write-says-requires c κs = search needs
 
--- src/lib.rt:367:9
 returns : tie.Need-returns
 returns c =
     let s = c .before .before .before in
     let l = each (column-fix (now (s .args .ts)) (now (s .args .xs)) (now (s .args .ys))) 0 (s .args .n) in
     c .write-says .ensures l (length-each _ 0 _) (none-turned-away l _ (length-each _ 0 _ ∙ c .before .if1 .taken))
 
--- src/lib.rt:369:29
 scan-columns-requires : tie.Need-scan-columns-requires
 scan-columns-requires c κs = search needs
 
--- src/lib.rt:369:19
 scan-says-requires : tie.Need-scan-says-requires
 scan-says-requires c κs = search needs
 
--- src/lib.rt:369:5
 write-says-requires-2 : tie.Need-write-says-requires-2
 write-says-requires-2 c κs = search needs
 
--- src/lib.rt:362:1
 returns-2 : tie.Need-returns-2
 returns-2 c =
     let s = c .before .before .before .before .before in

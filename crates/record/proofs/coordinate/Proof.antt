@@ -5,30 +5,22 @@ use Rattle.record.specs.Laws.Numbers.{signed-low, signed-high, complemen
 use borrow.Author.Needs.{needs}
 use Rattle.record.proofs.coordinate.Statement.{statement}
 use Rattle.record.proofs.coordinate.Tie as tie
-use Rattle.record.proofs.coordinate.Reads as reads
-use Rattle.record.proofs.coordinate.Lts as lts
 
--- src/lib.rt:46:21
 cast-t4 : tie.Need-cast-t4
 cast-t4 c = search needs
 
--- src/lib.rt:48:28
 sub-t5 : tie.Need-sub-t5
 sub-t5 c = search needs
 
--- src/lib.rt:48:27
 cast-t6 : tie.Need-cast-t6
 cast-t6 c = search needs
 
--- src/lib.rt:48:21
 sub-t7 : tie.Need-sub-t7
 sub-t7 c = complement-fits (c .before .args .n) (c .if1 .left) (c .before .pre)
 
--- src/lib.rt:41:1
 returns : tie.Need-returns
 returns c = toZ-pos w16 (c .if1 .taken) ∙ signed-low (c .before .args .n) (c .if1 .taken)
 
--- src/lib.rt:41:1
 returns-2 : tie.Need-returns-2
 returns-2 c =
     let n = c .before .args .n in

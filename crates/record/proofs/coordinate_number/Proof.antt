@@ -3,33 +3,25 @@ use mir.Facts.{toZ-ofZ}
 use Rattle.record.specs.Laws.Numbers.{NumberFits, number-fits, number-negative, number-positive}
 use Rattle.record.proofs.coordinate_number.Statement.{statement}
 use Rattle.record.proofs.coordinate_number.Tie as tie
-use Rattle.record.proofs.coordinate_number.Reads as reads
-use Rattle.record.proofs.coordinate_number.Lts as lts
 
 ranges : (s : tie.Start) → NumberFits (s .args .c .0)
 ranges s = number-fits (search needs)
 
--- src/lib.rt:271:13
 cast-z : tie.Need-cast-z
 cast-z c = let k = ranges (c .before .before) in search needs
 
--- src/lib.rt:273:17
 add-result : tie.Need-add-result
 add-result c = let k = ranges (c .before .before .before) in search needs
 
--- src/lib.rt:273:16
 cast-result : tie.Need-cast-result
 cast-result c = let k = ranges (c .before .before .before) in let n = number-negative (c .before .before .before .args .c .0) (k .z16) (simp (toZ-ofZ, k .z16, k .z32) at (c .if1 .taken)) in search needs
 
--- src/lib.rt:273:9
 returns : tie.Need-returns
 returns c = let k = ranges (c .before .before .before) in let n = number-negative (c .before .before .before .args .c .0) (k .z16) (simp (toZ-ofZ, k .z16, k .z32) at (c .if1 .taken)) in simp (toZ-ofZ, k .z16, k .z32, k .sum32) (n .is)
 
--- src/lib.rt:275:5
 cast-result-2 : tie.Need-cast-result-2
 cast-result-2 c = let k = ranges (c .before .before .before) in let n = number-positive (c .before .before .before .args .c .0) (k .z16) (simp (toZ-ofZ, k .z16, k .z32) at (c .if1 .left)) in search needs
 
--- src/lib.rt:268:1
 returns-2 : tie.Need-returns-2
 returns-2 c = let k = ranges (c .before .before .before) in let n = number-positive (c .before .before .before .args .c .0) (k .z16) (simp (toZ-ofZ, k .z16, k .z32) at (c .if1 .left)) in simp (toZ-ofZ, k .z16, k .z32) (n .is)
 

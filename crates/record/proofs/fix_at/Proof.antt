@@ -4,49 +4,34 @@ use Rattle.record.specs.Laws.Numbers.{fix-parts}
 use borrow.Author.Needs.{needs}
 use Rattle.record.proofs.fix_at.Statement.{statement}
 use Rattle.record.proofs.fix_at.Tie as tie
-use Rattle.record.proofs.fix_at.Reads as reads
-use Rattle.record.proofs.fix_at.Lts as lts
-use Rattle.record.proofs.coordinate.Reads as coordinate-reads
-use Rattle.record.proofs.four_at.Reads as four-at-reads
-use Rattle.record.proofs.two_at.Reads as two-at-reads
 
--- src/lib.rt:57:19
 mul-at : tie.Need-mul-at
 mul-at c = search needs
 
--- src/lib.rt:57:14
 add-at : tie.Need-add-at
 add-at c = search needs
 
--- src/lib.rt:58:9
 four-at-requires : tie.Need-four-at-requires
 four-at-requires c κs = search needs
 
--- src/lib.rt:59:34
 add-two-at : tie.Need-add-two-at
 add-two-at c = search needs
 
--- src/lib.rt:59:24
 two-at-requires : tie.Need-two-at-requires
 two-at-requires c κs = search needs
 
--- src/lib.rt:59:9
 coordinate-requires : tie.Need-coordinate-requires
 coordinate-requires c κs = search needs
 
--- src/lib.rt:60:34
 add-two-at-2 : tie.Need-add-two-at-2
 add-two-at-2 c = search needs
 
--- src/lib.rt:60:24
 two-at-requires-2 : tie.Need-two-at-requires-2
 two-at-requires-2 c κs = search needs
 
--- src/lib.rt:60:9
 coordinate-requires-2 : tie.Need-coordinate-requires-2
 coordinate-requires-2 c κs = search needs
 
--- src/lib.rt:53:1
 returns : tie.Need-returns
 returns c =
     let s = c .before .before .before .before .before .before in

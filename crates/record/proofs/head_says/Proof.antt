@@ -9,10 +9,6 @@ use Rattle.record.specs.Laws.Head.{says, from-2, from-3, from-4, from-5,
 use borrow.Author.Needs.{needs}
 use Rattle.record.proofs.head_says.Statement.{statement}
 use Rattle.record.proofs.head_says.Tie as tie
-use Rattle.record.proofs.head_says.Reads as reads
-use Rattle.record.proofs.head_says.Lts as lts
-use Rattle.record.proofs.four_at.Reads as four-at-reads
-use Rattle.record.proofs.two_at.Reads as two-at-reads
 
 abbrev bytes : tie.Start → List ℕ
 bytes s = now (s .args .b)
@@ -44,85 +40,69 @@ left-5 c =
     let b = bytes (c .before .before .before .before .before .before .before .before .before .before) in
     left-4 (c .before) ∙ passes (says b) short-record from-6 (not-short b (omega arith))
 
--- src/lib.rt:144:9
 returns : tie.Need-returns
 returns c =
     let b = bytes (c .before .before) in
     sym (stops (says b) few-bytes _ (few b (c .if1 .taken)))
 
--- src/lib.rt:146:8
 two-at-requires : tie.Need-two-at-requires
 two-at-requires c κs = search needs
 
--- src/lib.rt:147:9
 returns-2 : tie.Need-returns-2
 returns-2 c =
     let b = bytes (c .before .before .before .before) in
     sym (left-1 (c .before .before) ∙ stops (says b) other-kind _ (other b (λ z. c .if2 .taken (c .before .two-at .ensures .0 ∙ z))))
 
--- src/lib.rt:149:9
 two-at-requires-2 : tie.Need-two-at-requires-2
 two-at-requires-2 c κs = search needs
 
--- src/lib.rt:151:9
 returns-3 : tie.Need-returns-3
 returns-3 c =
     let b = bytes (c .before .before .before .before .before .before) in
     sym (left-2 (c .before .before) ∙ stops (says b) bad-count _ (count-zero b (sym (c .before .two-at2 .ensures .0) ∙ c .if3 .taken)))
 
--- src/lib.rt:154:9
 returns-4 : tie.Need-returns-4
 returns-4 c =
     let b = bytes (c .before .before .before .before .before .before .before) in
     sym (left-2 (c .before .before .before) ∙ stops (says b) bad-count _ (count-high b (omega (arith, c .before .before .two-at2 .ensures .0))))
 
--- src/lib.rt:156:9
 four-at-requires : tie.Need-four-at-requires
 four-at-requires c κs = search needs
 
--- src/lib.rt:157:23
 mul-if5 : tie.Need-mul-if5
 mul-if5 c = search needs
 
--- src/lib.rt:157:18
 add-if5 : tie.Need-add-if5
 add-if5 c = search needs
 
--- src/lib.rt:158:9
 returns-5 : tie.Need-returns-5
 returns-5 c =
     let b = bytes (c .before .before .before .before .before .before .before .before .before) in
     sym (left-3 (c .before .before) ∙ stops (says b) bad-length _ (length-other b (λ z. c .if5 .taken (omega arith))))
 
--- src/lib.rt:160:15
 cast-if6 : tie.Need-cast-if6
 cast-if6 c = search needs
 
--- src/lib.rt:161:9
 returns-6 : tie.Need-returns-6
 returns-6 c =
     let b = bytes (c .before .before .before .before .before .before .before .before .before .before) in
     sym (left-4 (c .before) ∙ stops (says b) short-record _ (short b (omega arith)))
 
--- src/lib.rt:163:9
 two-at-requires-3 : tie.Need-two-at-requires-3
 two-at-requires-3 c κs = search needs
 
--- src/lib.rt:165:9
 returns-7 : tie.Need-returns-7
 unfolding first
 returns-7 c =
     let b = bytes (c .before .before .before .before .before .before .before .before .before .before .before .before) in
     sym (left-5 (c .before .before) ∙ passes (says b) bad-mark [] (mark-low b (omega arith)))
 
--- src/lib.rt:168:9
 returns-8 : tie.Need-returns-8
 unfolding first
 returns-8 c =
     let b = bytes (c .before .before .before .before .before .before .before .before .before .before .before .before .before) in
     sym (left-5 (c .before .before .before) ∙ passes (says b) bad-mark [] (mark-never b (omega arith)))
 
--- src/lib.rt:139:1
 returns-9 : tie.Need-returns-9
 returns-9 c =
     let b = bytes (c .before .before .before .before .before .before .before .before .before .before .before .before .before) in

@@ -11,10 +11,6 @@ use Rattle.record.specs.Writing.{column-fix}
 use Rattle.record.specs.Laws.Writing.{stores-none, stores-more}
 use Rattle.record.proofs.put_columns.Statement.{statement}
 use Rattle.record.proofs.put_columns.Tie as tie
-use Rattle.record.proofs.put_columns.Reads as reads
-use Rattle.record.proofs.put_columns.Lts as lts
-use Rattle.record.proofs.column_fix.Reads as column-fix-reads
-use Rattle.record.proofs.put_fix.Reads as put-fix-reads
 
 abbrev Inv-loop : tie.InvT-loop
 Inv-loop ts xs ys n out₀ k₀ out k = (k ≤ n) × (length out ≡ length out₀) × (out ≡ sets out₀ 10 (all-bytes trail (each (column-fix ts xs ys) 0 k)))
@@ -22,50 +18,39 @@ Inv-loop ts xs ys n out₀ k₀ out k = (k ≤ n) × (length out ≡ length out�
 abbrev μ-loop : tie.MeasureT-loop
 μ-loop ts xs ys n out₀ k₀ out k = n - k
 
--- src/lib.rt:378:5
 loop-holds : tie.Need-loop-holds Inv-loop μ-loop
 loop-holds c = (omega arith, refl, stores-none _ _)
 
--- src/lib.rt:379:27
 mul-put-fix : tie.Need-mul-put-fix Inv-loop μ-loop
 mul-put-fix c = search needs
 
--- src/lib.rt:379:22
 add-put-fix : tie.Need-add-put-fix Inv-loop μ-loop
 add-put-fix c = search needs
 
--- src/lib.rt:379:34
 column-fix-requires : tie.Need-column-fix-requires Inv-loop μ-loop
 column-fix-requires c κs = search needs
 
--- src/lib.rt:379:9
 put-fix-requires : tie.Need-put-fix-requires Inv-loop μ-loop
 put-fix-requires c κs = search needs
 
--- src/lib.rt:380:9
 add-k : tie.Need-add-k Inv-loop μ-loop
 add-k c = search needs
 
--- src/lib.rt:378:5
 loop-less : tie.Need-loop-less Inv-loop μ-loop
 loop-less c = search needs
 
--- src/lib.rt:378:5
 loop-again : tie.Need-loop-again Inv-loop μ-loop
 loop-again c =
     let i = c .before .before .before .before .before .before .loop .inv in
-    let e = c .before .before .put-fix .ensures in
-    (
+    let e = c .before .before .put-fix .ensures in (
       omega arith,
       ap length e ∙ length-sets (c .before .before .before .before .before .before .loop .out) (10 + 8 * c .before .before .before .before .before .before .loop .k) (fix-bytes trail (fixOf (c .before .before .before .column-fix .result))) ∙ i .1,
       e ∙ ap (λ (l : List ℕ). sets l (10 + 8 * c .before .before .before .before .before .before .loop .k) (fix-bytes trail (fixOf (c .before .before .before .column-fix .result)))) (i .2) ∙ stores-more _ _ _ (c .before .before .before .before .before .before .loop .k) (c .before .before .before .column-fix .ensures),
     )
 
--- src/lib.rt:373:1
 same-length : tie.Need-same-length Inv-loop μ-loop
 same-length c = search needs
 
--- src/lib.rt:373:1
 returns : tie.Need-returns Inv-loop μ-loop
 returns c =
     let i = c .before .loop .inv in

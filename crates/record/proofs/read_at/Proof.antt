@@ -5,26 +5,18 @@ use Rattle.record.specs.Laws.Reading.{stands-true, yields-some, yields-n
 use borrow.Author.Needs.{needs}
 use Rattle.record.proofs.read_at.Statement.{statement}
 use Rattle.record.proofs.read_at.Tie as tie
-use Rattle.record.proofs.read_at.Reads as reads
-use Rattle.record.proofs.read_at.Lts as lts
-use Rattle.record.proofs.fix_at.Reads as fix-at-reads
-use Rattle.record.proofs.stands.Reads as stands-reads
 
--- src/lib.rt:230:8
 stands-requires : tie.Need-stands-requires
 stands-requires c κs = search needs
 
--- src/lib.rt:231:28
 fix-at-requires : tie.Need-fix-at-requires
 fix-at-requires c κs = stands-true (now (c .before .before .before .args .b)) _ (sym (c .before .stands .ensures) ∙ c .if1 .taken) .1
 
--- src/lib.rt:231:9
 returns : tie.Need-returns
 returns c =
     let b = now (c .before .before .before .before .args .b) in
     ap some (c .fix-at .ensures) ∙ sym (yields-some b _ (sym (c .before .before .stands .ensures) ∙ c .before .if1 .taken))
 
--- src/lib.rt:227:1
 returns-2 : tie.Need-returns-2
 returns-2 c = sym (yields-none (now (c .before .before .before .args .b)) _ (sym (c .before .stands .ensures) ∙ c .if1 .left))
 

@@ -1,4 +1,4 @@
-use Prim.Native.Nat.{_+_, _-_, _≤_}
+use Prim.Native.Nat.{_-_, _≤_}
 use mathlib.Core.Path.{_≡_}
 use native.Mathlib.Omega.{arith}
 use borrow.Author.Needs.{needs}
@@ -6,11 +6,6 @@ use Rattle.record.specs.Format.{trail, fix-at, each}
 use Rattle.record.specs.Laws.Scan.{Scanned, scanned-start, scanned-step}
 use Rattle.record.proofs.scan_all.Statement.{statement}
 use Rattle.record.proofs.scan_all.Tie as tie
-use Rattle.record.proofs.scan_all.Reads as reads
-use Rattle.record.proofs.scan_all.Lts as lts
-use Rattle.record.proofs.fix_at.Reads as fix-at-reads
-use Rattle.record.proofs.scan_first.Reads as scan-first-reads
-use Rattle.record.proofs.scan_next.Reads as scan-next-reads
 
 abbrev Inv-loop : tie.InvT-loop
 Inv-loop b n s₀ k₀ s k = (1 ≤ k) × (k ≤ n) × Scanned (fix-at trail b 0) (each (fix-at trail b) 1 (k - 1)) s
@@ -18,41 +13,32 @@ Inv-loop b n s₀ k₀ s k = (1 ≤ k) × (k ≤ n) × Scanned (fix-at trail b 0
 abbrev μ-loop : tie.MeasureT-loop
 μ-loop b n s₀ k₀ s k = n - k
 
--- src/lib.rt:186:28
 fix-at-requires : tie.Need-fix-at-requires Inv-loop μ-loop
 fix-at-requires c κs = search needs
 
--- src/lib.rt:186:9
 scan-first-requires : tie.Need-scan-first-requires Inv-loop μ-loop
 scan-first-requires c κs = search needs
 
--- src/lib.rt:188:5
 loop-holds : tie.Need-loop-holds Inv-loop μ-loop
 loop-holds c = (omega arith, omega arith, scanned-start _ _ _ (c .before .fix-at .ensures) (c .scan-first .ensures))
 
--- src/lib.rt:189:26
 fix-at-requires-2 : tie.Need-fix-at-requires-2 Inv-loop μ-loop
 fix-at-requires-2 c κs = search needs
 
--- src/lib.rt:189:9
 scan-next-requires : tie.Need-scan-next-requires Inv-loop μ-loop
 scan-next-requires c κs = search needs
 
--- src/lib.rt:190:9
 add-k : tie.Need-add-k Inv-loop μ-loop
 add-k c = search needs
 
--- src/lib.rt:188:5
 loop-less : tie.Need-loop-less Inv-loop μ-loop
 loop-less c = search needs
 
--- src/lib.rt:188:5
 loop-again : tie.Need-loop-again Inv-loop μ-loop
 loop-again c =
     let i = c .before .before .before .loop .inv in
     (omega arith, omega arith, scanned-step _ (c .before .before .before .loop .k) _ _ (i .0) (c .before .fix-at2 .ensures) (c .scan-next .ensures _ _ (i .2)))
 
--- src/lib.rt:182:1
 returns : tie.Need-returns Inv-loop μ-loop
 returns c =
     let i = c .before .loop .inv in

@@ -1,4 +1,4 @@
-use Prim.Native.Nat.{_+_, _-_, _≤_}
+use Prim.Native.Nat.{_-_, _≤_}
 use mathlib.Core.Path.{_≡_}
 use native.Mathlib.Omega.{arith}
 use borrow.Author.Needs.{needs}
@@ -7,11 +7,6 @@ use Rattle.record.specs.Writing.{column-fix}
 use Rattle.record.specs.Laws.Scan.{Scanned, scanned-start, scanned-step}
 use Rattle.record.proofs.scan_columns.Statement.{statement}
 use Rattle.record.proofs.scan_columns.Tie as tie
-use Rattle.record.proofs.scan_columns.Reads as reads
-use Rattle.record.proofs.scan_columns.Lts as lts
-use Rattle.record.proofs.column_fix.Reads as column-fix-reads
-use Rattle.record.proofs.scan_first.Reads as scan-first-reads
-use Rattle.record.proofs.scan_next.Reads as scan-next-reads
 
 abbrev Inv-loop : tie.InvT-loop
 Inv-loop ts xs ys n s₀ k₀ s k = (1 ≤ k) × (k ≤ n) × Scanned (column-fix ts xs ys 0) (each (column-fix ts xs ys) 1 (k - 1)) s
@@ -19,41 +14,32 @@ Inv-loop ts xs ys n s₀ k₀ s k = (1 ≤ k) × (k ≤ n) × Scanned (column-fi
 abbrev μ-loop : tie.MeasureT-loop
 μ-loop ts xs ys n s₀ k₀ s k = n - k
 
--- src/lib.rt:330:28
 column-fix-requires : tie.Need-column-fix-requires Inv-loop μ-loop
 column-fix-requires c κs = search needs
 
--- src/lib.rt:330:9
 scan-first-requires : tie.Need-scan-first-requires Inv-loop μ-loop
 scan-first-requires c κs = search needs
 
--- src/lib.rt:332:5
 loop-holds : tie.Need-loop-holds Inv-loop μ-loop
 loop-holds c = (omega arith, omega arith, scanned-start _ _ _ (c .before .column-fix .ensures) (c .scan-first .ensures))
 
--- src/lib.rt:333:26
 column-fix-requires-2 : tie.Need-column-fix-requires-2 Inv-loop μ-loop
 column-fix-requires-2 c κs = search needs
 
--- src/lib.rt:333:9
 scan-next-requires : tie.Need-scan-next-requires Inv-loop μ-loop
 scan-next-requires c κs = search needs
 
--- src/lib.rt:334:9
 add-k : tie.Need-add-k Inv-loop μ-loop
 add-k c = search needs
 
--- src/lib.rt:332:5
 loop-less : tie.Need-loop-less Inv-loop μ-loop
 loop-less c = search needs
 
--- src/lib.rt:332:5
 loop-again : tie.Need-loop-again Inv-loop μ-loop
 loop-again c =
     let i = c .before .before .before .loop .inv in
     (omega arith, omega arith, scanned-step _ (c .before .before .before .loop .k) _ _ (i .0) (c .before .column-fix2 .ensures) (c .scan-next .ensures _ _ (i .2)))
 
--- src/lib.rt:326:1
 returns : tie.Need-returns Inv-loop μ-loop
 returns c =
     let i = c .before .loop .inv in

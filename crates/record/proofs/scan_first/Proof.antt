@@ -3,15 +3,10 @@ use Rattle.record.specs.Laws.Scan.{scanned-first}
 use borrow.Author.Needs.{needs}
 use Rattle.record.proofs.scan_first.Statement.{statement}
 use Rattle.record.proofs.scan_first.Tie as tie
-use Rattle.record.proofs.scan_first.Reads as reads
-use Rattle.record.proofs.scan_first.Lts as lts
-use Rattle.record.proofs.fix_outside.Reads as fix-outside-reads
 
--- src/lib.rt:98:18
 fix-outside-requires : tie.Need-fix-outside-requires
 fix-outside-requires c κs = search needs
 
--- src/lib.rt:93:1
 returns : tie.Need-returns
 returns c = scanned-first _ _ (c .fix-outside .ensures) refl refl refl
 

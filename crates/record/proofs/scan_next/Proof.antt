@@ -3,15 +3,10 @@ use Rattle.record.specs.Laws.Scan.{scanned-more}
 use borrow.Author.Needs.{needs}
 use Rattle.record.proofs.scan_next.Statement.{statement}
 use Rattle.record.proofs.scan_next.Tie as tie
-use Rattle.record.proofs.scan_next.Reads as reads
-use Rattle.record.proofs.scan_next.Lts as lts
-use Rattle.record.proofs.fix_outside.Reads as fix-outside-reads
 
--- src/lib.rt:113:30
 fix-outside-requires : tie.Need-fix-outside-requires
 fix-outside-requires c κs = search needs
 
--- src/lib.rt:106:1
 returns : tie.Need-returns
 returns c a l h = scanned-more a l _ _ _ h (rw (c .before .before .before .before .fix-outside .ensures) refl) refl refl refl
 

@@ -3,34 +3,25 @@ use Rattle.record.specs.Laws.Scan.{says-7, says-8, says-9, says-none}
 use borrow.Author.Needs.{needs}
 use Rattle.record.proofs.scan_says.Statement.{statement}
 use Rattle.record.proofs.scan_says.Tie as tie
-use Rattle.record.proofs.scan_says.Reads as reads
-use Rattle.record.proofs.scan_says.Lts as lts
 
--- src/lib.rt:123:9
 returns : tie.Need-returns
 returns c q a l e h = sym (says-7 q a l _ e h (c .if1 .taken))
 
--- src/lib.rt:126:9
 returns-2 : tie.Need-returns-2
 returns-2 c q a l e h = sym (says-8 q a l _ e h (c .before .if1 .left) (c .if2 .taken))
 
--- src/lib.rt:130:9
 cast-if3 : tie.Need-cast-if3
 cast-if3 c = search needs
 
--- src/lib.rt:130:8
 add-if3 : tie.Need-add-if3
 add-if3 c = search needs
 
--- src/lib.rt:130:36
 cast-if3-2 : tie.Need-cast-if3-2
 cast-if3-2 c = search needs
 
--- src/lib.rt:131:9
 returns-3 : tie.Need-returns-3
 returns-3 c q a l e h = sym (says-9 q a l _ e h (c .before .before .before .before .before .before .if1 .left) (c .before .before .before .before .before .if2 .left) (c .if3 .taken))
 
--- src/lib.rt:119:1
 returns-4 : tie.Need-returns-4
 returns-4 c q a l e h = sym (says-none q a l _ e h (c .before .before .before .before .before .before .if1 .left) (c .before .before .before .before .before .if2 .left) (c .if3 .left))
 

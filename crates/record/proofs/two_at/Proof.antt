@@ -3,39 +3,28 @@ use Rattle.record.specs.Laws.Numbers.{two-bytes}
 use borrow.Author.Needs.{needs}
 use Rattle.record.proofs.two_at.Statement.{statement}
 use Rattle.record.proofs.two_at.Tie as tie
-use Rattle.record.proofs.two_at.Reads as reads
-use Rattle.record.proofs.two_at.Lts as lts
-use Rattle.record.proofs.wide.Reads as wide-reads
 
--- src/lib.rt:29:10
 shared-slice-read-wide : tie.Need-shared-slice-read-wide
 shared-slice-read-wide c = search needs
 
--- src/lib.rt:29:5
 wide-requires : tie.Need-wide-requires
 wide-requires c κs = search needs
 
--- src/lib.rt:29:26
 add-wide : tie.Need-add-wide
 add-wide c = search needs
 
--- src/lib.rt:29:24
 shared-slice-read-wide-2 : tie.Need-shared-slice-read-wide-2
 shared-slice-read-wide-2 c = search needs
 
--- src/lib.rt:29:19
 wide-requires-2 : tie.Need-wide-requires-2
 wide-requires-2 c κs = search needs
 
--- src/lib.rt:29:19
 mul-result : tie.Need-mul-result
 mul-result c = search needs
 
--- src/lib.rt:29:5
 add-result : tie.Need-add-result
 add-result c = search needs
 
--- src/lib.rt:25:1
 returns : tie.Need-returns
 returns c = (rw (c .before .before .wide .ensures .0, c .wide2 .ensures .0) (two-bytes _ _), omega arith)
 

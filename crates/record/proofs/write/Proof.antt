@@ -15,12 +15,6 @@ use native.Mathlib.Omega.{arith}
 use borrow.Author.Needs.{needs}
 use Rattle.record.proofs.write.Statement.{statement}
 use Rattle.record.proofs.write.Tie as tie
-use Rattle.record.proofs.write.Reads as reads
-use Rattle.record.proofs.write.Lts as lts
-use Rattle.record.proofs.columns_say.Reads as columns-say-reads
-use Rattle.record.proofs.least.Reads as least-reads
-use Rattle.record.proofs.put_columns.Reads as put-columns-reads
-use Rattle.record.proofs.put_head.Reads as put-head-reads
 
 -- the list that the columns lend, and the output
 abbrev lent : tie.Start → List Fix
@@ -46,72 +40,57 @@ accepted c = sym (verdict-is (c .before .before)) ∙ ap refused (c .enum-told .
 fit : (c : tie.After-enum-told) → (c .before .before .before .least2 .result ≤ 4096) × (10 + 8 * c .before .before .before .least2 .result ≤ length (output (c .before .before .before .before .before .before .before)))
 fit c = rw (length-is (c .before .before .before)) at (writes-fit (lent (c .before .before .before .before .before .before .before)) (length (output (c .before .before .before .before .before .before .before))) (accepted c))
 
--- src/lib.rt:388:29
 least-requires : tie.Need-least-requires
 least-requires c κs = search needs
 
--- src/lib.rt:388:9
 least-requires-2 : tie.Need-least-requires-2
 least-requires-2 c κs = search needs
 
--- src/lib.rt:389:9
 columns-say-requires : tie.Need-columns-say-requires
 columns-say-requires c κs = search needs
 
--- src/lib.rt:391:26
 enum-known-v : tie.Need-enum-known-v
 enum-known-v c = search needs
 
--- src/lib.rt:393:22
 enum-told : tie.Need-enum-told
 enum-told c = search needs
 
--- src/lib.rt:393:27
 cast-put-head : tie.Need-cast-put-head
 cast-put-head c = let h = fit (c .before) in search needs
 
--- src/lib.rt:393:13
 put-head-requires : tie.Need-put-head-requires
 put-head-requires c κs = let h = fit (c .before) in search needs
 
--- src/lib.rt:394:13
 put-columns-requires : tie.Need-put-columns-requires
 put-columns-requires c κs = let h = fit (c .before .before .before .before .before) in let k = count-is (c .before .before .before .before .before .before .before .before) in (omega arith, omega arith, omega arith, omega arith, rw (ap length (c .before .before .before .put-head .ensures) ∙ length-sets (output (c .before .before .before .before .before .before .before .before .before .before .before .before)) 0 (header-bytes trail 65535 (c .before .before .before .before .before .before .before .before .least2 .result))) (h .1))
 
--- src/lib.rt:395:39
 cast-t16 : tie.Need-cast-t16
 cast-t16 c = let h = fit (c .before .before .before .before .before .before .before .before) in search needs
 
--- src/lib.rt:395:34
 mul-t19 : tie.Need-mul-t19
 mul-t19 c = let h = fit (c .before .before .before .before .before .before .before .before) in search needs
 
--- src/lib.rt:395:29
 add-t20 : tie.Need-add-t20
 add-t20 c = let h = fit (c .before .before .before .before .before .before .before .before) in search needs
 
--- src/lib.rt:385:1
 returns : tie.Need-returns
 returns c = writes-refusal (lent (c .before .before .before .before .before .before .before .before)) (output (c .before .before .before .before .before .before .before .before)) _ (sym (verdict-is (c .before .before .before)) ∙ ap refused (c .before .v .given .1))
 
--- src/lib.rt:385:1
 same-length : tie.Need-same-length
 same-length c = search needs
 
--- src/lib.rt:385:1
 returns-2 : tie.Need-returns-2
 returns-2 c =
     let s = c .before .before .before .before .before .before .before .before .before .before .before .before .before .before .before in
     let f = column-fix (now (s .args .ts)) (now (s .args .xs)) (now (s .args .ys)) in
     let n = c .before .before .before .before .before .before .before .before .before .before .before .least2 .result in
     let is = length-is (c .before .before .before .before .before .before .before .before .before .before .before) in
-    let a = accepted (c .before .before .before .before .before .before .before .before) in
-    (
+    let a = accepted (c .before .before .before .before .before .before .before .before) in (
       writes-length (lent s) (output s) n is a,
       c .before .before .put-columns .ensures
-      ∙ ap (λ (o : List ℕ). sets o 10 (all-bytes trail (each f 0 n))) (c .before .before .before .before .before .before .put-head .ensures)
-      ∙ ap (λ (k : ℕ). sets (sets (output s) 0 (header-bytes trail 65535 n)) 10 (all-bytes trail (each f 0 k))) (count-is (c .before .before .before .before .before .before .before .before .before .before .before))
-      ∙ writes-record (lent s) (output s) n is a,
+          ∙ ap (λ (o : List ℕ). sets o 10 (all-bytes trail (each f 0 n))) (c .before .before .before .before .before .before .put-head .ensures)
+          ∙ ap (λ (k : ℕ). sets (sets (output s) 0 (header-bytes trail 65535 n)) 10 (all-bytes trail (each f 0 k))) (count-is (c .before .before .before .before .before .before .before .before .before .before .before))
+          ∙ writes-record (lent s) (output s) n is a,
     )
 
 pub write-spec : {M : Type 1} → statement M

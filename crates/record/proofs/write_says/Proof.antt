@@ -5,42 +5,31 @@ use Rattle.record.specs.Laws.Writing.{writes-3-none, writes-3-many, writ
 use borrow.Author.Needs.{needs}
 use Rattle.record.proofs.write_says.Statement.{statement}
 use Rattle.record.proofs.write_says.Tie as tie
-use Rattle.record.proofs.write_says.Reads as reads
-use Rattle.record.proofs.write_says.Lts as lts
 
--- src/lib.rt:344:9
 returns : tie.Need-returns
 returns c l e h = sym (writes-3-none l _ (e ∙ c .if1 .taken))
 
--- src/lib.rt:347:9
 returns-2 : tie.Need-returns-2
 returns-2 c l e h = sym (writes-3-many l _ (omega (arith, e)))
 
--- src/lib.rt:350:26
 enum-known-scanned : tie.Need-enum-known-scanned
 enum-known-scanned c = search needs
 
--- src/lib.rt:352:30
 enum-told : tie.Need-enum-told
 enum-told c = search needs
 
--- src/lib.rt:352:30
 mul-if3 : tie.Need-mul-if3
 mul-if3 c = search needs
 
--- src/lib.rt:352:25
 add-if3 : tie.Need-add-if3
 add-if3 c = search needs
 
--- src/lib.rt:340:1
 returns-3 : tie.Need-returns-3
 returns-3 c l e h = sym (writes-fix l (c .before .before .before .before .before .args .output) (λ z. c .before .before .before .before .if1 .left (sym e ∙ z)) (omega (arith, e)) _ (sym h ∙ ap refused (c .before .scanned .given .1)))
 
--- src/lib.rt:340:1
 returns-4 : tie.Need-returns-4
 returns-4 c l e h = sym (writes-15 l (c .before .before .before .before .before .args .output) (λ z. c .before .before .before .before .if1 .left (sym e ∙ z)) (omega (arith, e)) (sym h ∙ ap refused (c .before .enum-told .given .1)) (omega (arith, e)))
 
--- src/lib.rt:340:1
 returns-5 : tie.Need-returns-5
 returns-5 c l e h = sym (writes-none l (c .before .before .before .before .before .args .output) (λ z. c .before .before .before .before .if1 .left (sym e ∙ z)) (omega (arith, e)) (sym h ∙ ap refused (c .before .enum-told .given .1)) (omega (arith, e)))
 

@@ -1,26 +1,30 @@
 -- What an accepted record gives, and when a record is accepted: its head, its mark, and its fixes.
-use mathlib.Core.Path.{_≡_, refl, sym, _∙_, ap}
-use mathlib.Core.Bool.{Bool, true, false, not, _||_, _&&_}
+use mathlib.Core.Path.{_≡_, refl, sym, _∙_}
+use mathlib.Core.Bool.{Bool, true, false, not, _&&_}
 use mathlib.Core.List.{List, [], _∷_, _++_}
-use mathlib.Core.Option.{Option, some, none}
+use mathlib.Core.Option.{some, none}
 use Prim.Native.Nat.{ℕ, _+_, _*_, _<_, _≤_}
 use native.Mathlib.Omega.{arith}
 use lib.Dec.{ltb, leb, eqb}
-use lib.ListN.{length}
-use borrow.Author.Tests.{ltb-false, eqb-true, leb-false, lt-leb, lt-ltb, not-false}
-use lib.IntN.{ℤ, pos, negℤ}
-use lib.Signed.{ltZ, _≤ℤ_, ltZ-no}
+use lib.ListN.{length, take, drop, length-append}
+use borrow.Author.Tests.{eqb-true, eqb-false, leb-false, le-leb, lt-leb, lt-ltb, not-false}
+use lib.IntN.{pos, negℤ}
+use lib.Signed.{ltZ, _≤ℤ_}
 use Rattle.distance.specs.Fix.{Fix, Placed, After, none-after, later, Rising, no-fix, rising}
 use Rattle.distance.specs.Distance.{seconds}
 use Rattle.distance.specs.Laws.All.{All, all-none, all-more}
 use Rattle.distance.specs.Integers.Differences.{diffs}
 use Rattle.distance.specs.Integers.Order.{ltZ-false, le-of-ltZ}
-use Rattle.record.specs.Format.{trail, length-field, kind-field, mark-field, count-field, fixes}
-use Rattle.record.specs.Checks.{Asked, Check, few-bytes, other-kind, bad-count, bad-length, short-record, bad-mark, misplaced, unordered, long-span, sentence, first, head-checks, fix-checks, asked-of, nothing, read-refusal, IsAccepted, outside, fix-outside, some-outside, some-early-after, some-early, last-fix, of-ends, too-long}
+use Rattle.record.specs.Format.{trail, never, fix-at, record-bytes, length-field, mark-field, count-field, fixes}
+use Rattle.record.specs.Checks.{Asked, few-bytes, other-kind, bad-count, bad-length, short-record, bad-mark, short-output, sentence, first, head-checks, fix-checks, asked-of, nothing, refusal, writing, IsAccepted, outside, fix-outside, some-outside, some-early-after, some-early, last-fix, of-ends, too-long}
 use Rattle.record.specs.Laws.First.{passes, NoneHolds, no-check, and-not, none-holds, none-first, none-front, first-none}
-use Rattle.record.specs.Laws.Head.{Head, says, neither, accepted-head, not-few, not-other, count-good, length-same, not-short, mark-low, mark-never, mark-says, from-2, from-3, from-4, from-5, from-6}
+use Rattle.record.specs.Laws.Head.{Head, says, positive, neither, accepted-head, not-few, not-other, count-good, length-same, not-short, mark-low, mark-never, mark-says, from-2, from-3, from-4, from-5, from-6}
 use Rattle.record.specs.Laws.Numbers.{false-true}
-use Rattle.record.specs.Laws.RoundTrip.{Reads}
+use Rattle.record.specs.Laws.RoundTrip.{Reads, InRange, AreBytes, read-record, rewrites}
+use Rattle.record.specs.Reading.{yields, moves}
+use Rattle.record.specs.Laws.Reading.{stands-if, stands-past, yields-some, yields-none, moves-not}
+use Rattle.record.specs.Writing.{asked-to-write, write-refusal, written}
+use Rattle.record.specs.Laws.Writing.{writes-fit, length-record}
 use Rattle.distance.specs.Integers.Tests.{Test, holds, fails, test}
 
 -- ---- the fixes: checks 7 to 9 turn none away
@@ -87,12 +91,12 @@ accept mark l b r m one few whole g =
     let same : length-field b ≡ 10 + 8 * count-field b = omega arith in
     let reads-mark : GoodMark (mark-field b) = rw (r .mark-reads) m in
     let head : first (says b) head-checks ≡ none =
-        passes (says b) few-bytes from-2 (not-few b (omega arith))
-        ∙ passes (says b) other-kind from-3 (not-other b (r .kind-reads))
-        ∙ passes (says b) bad-count from-4 (count-good b some-fix (omega arith))
-        ∙ passes (says b) bad-length from-5 (length-same b same)
-        ∙ passes (says b) short-record from-6 (not-short b (omega arith))
-        ∙ passes (says b) bad-mark [] (mark-passes b reads-mark) ∙ first-none (says b) in
+    passes (says b) few-bytes from-2 (not-few b (omega arith))
+    ∙ passes (says b) other-kind from-3 (not-other b (r .kind-reads))
+    ∙ passes (says b) bad-count from-4 (count-good b some-fix (omega arith))
+    ∙ passes (says b) bad-length from-5 (length-same b same)
+    ∙ passes (says b) short-record from-6 (not-short b (omega arith))
+    ∙ passes (says b) bad-mark [] (mark-passes b reads-mark) ∙ first-none (says b) in
     record { accepted = none-first (says b) head-checks fix-checks head ∙ good-fixes (asked-of trail b nothing) (rw (r .fixes-read) g) }
 
 -- ---- the three checks of the fixes, as the layers above use them: places within the limit, times that rise, and a short span
@@ -146,3 +150,37 @@ span-good a l h =
 pub good-span : (a : Fix) (l : List Fix) → (last-fix a l) .t ≤ a .t + 65535 → of-ends too-long (a ∷ l) ≡ false
 unfolding of-ends
 good-span a l h = ltZ-false {x = pos 65535} {y = seconds a (last-fix a l)} (simp diffs (omega arith))
+
+-- ---- THE ROUND TRIP of the writer: what it puts down is accepted, and reads as the list that it was lent, marked never
+writes-good : (l : List Fix) (output : ℕ) → refusal trail writing (asked-to-write l output) ≡ none → (1 ≤ length l) × GoodFixes l
+unfolding sentence
+writes-good l output h = go (none-holds (sentence trail (asked-to-write l output)) (bad-count ∷ (fix-checks ++ short-output ∷ [])) h)
+  where
+    go : NoneHolds (sentence trail (asked-to-write l output)) (bad-count ∷ (fix-checks ++ short-output ∷ [])) → (1 ≤ length l) × GoodFixes l
+    go (and-not h3 (and-not h7 (and-not h8 (and-not h9 (and-not h15 no-check))))) =
+        (positive (length l) (eqb-false (length l) 0 (neither (eqb (length l) 0) (ltb 4096 (length l)) h3 .0)), record { inside = h7; ordered = h8; short = h9 })
+
+pub record WritesBack (l : List Fix) (b : List ℕ) : Type 0 where
+  pub reads : Reads 65535 l b
+  pub is-accepted : IsAccepted trail b
+
+pub writes-back : (l : List Fix) (out : List ℕ) → All InRange l → write-refusal trail l out ≡ none → WritesBack l (written trail l out)
+writes-back l out h n =
+    let fit = writes-fit l (length out) n in
+    let good = writes-good l (length out) n in
+    let r = read-record 65535 l (drop (10 + 8 * length l) out) (omega arith) (fit .0) h in
+    rw n (record { reads = r; is-accepted = accept 65535 l _ r (never-applied refl) (good .0) (fit .0) (long l (drop (10 + 8 * length l) out)) (good .1) })
+  where
+    long : (l : List Fix) (r : List ℕ) → 10 + 8 * length l ≤ length (record-bytes trail never l ++ r)
+    long l r = omega (arith, length-append (record-bytes trail never l) r, length-record never l)
+
+-- and an accepted record, written again with its own mark, is its own bytes
+pub rewritten : (b : List ℕ) → AreBytes b → IsAccepted trail b → record-bytes trail (mark-field b) (fixes trail b) ≡ take (length-field b) b
+rewritten b h a = let g = accepted-good b a .head in rewrites b h (g .length-is) (g .kind-is) (omega (arith, g .length-is, g .whole))
+
+-- ---- THE READER of an accepted record: fix after fix, and then none, each time
+pub yields-fix : (b : List ℕ) (k : ℕ) → IsAccepted trail b → k < count-field b → yields trail b k ≡ some (fix-at trail b k)
+yields-fix b k a h = let g = accepted-good b a .head in yields-some b k (stands-if b k h ∙ le-leb (18 + 8 * k) (length b) (omega (arith, g .whole)))
+
+pub yields-end : (b : List ℕ) (k : ℕ) → count-field b ≤ k → (yields trail b k ≡ none) × (moves trail b k ≡ k)
+yields-end b k h = (yields-none b k (stands-past b k h), moves-not b k (stands-past b k h))

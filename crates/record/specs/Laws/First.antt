@@ -1,13 +1,13 @@
 -- The first check whose sentence holds.
-use mathlib.Core.Path.{_≡_, refl, sym, _∙_, ap}
+use mathlib.Core.Path.{_≡_, refl, sym}
 use mathlib.Core.Logic.{_↔_}
 use mathlib.Core.Bool.{Bool, true, false, cond}
 use mathlib.Core.List.{List, [], _∷_, _++_}
-use mathlib.Core.Option.{Option, some, none}
+use mathlib.Core.Option.{some, none}
 use Prim.Native.Nat.{ℕ}
 use native.Mathlib.Omega.{arith}
 use Rattle.record.specs.Format.{Kind}
-use Rattle.record.specs.Checks.{Check, Given, number, first, sentence, Asked, asked-of, refusal, reading, read-refusal}
+use Rattle.record.specs.Checks.{Check, Given, number, first, sentence, asked-of, refusal, reading, read-refusal}
 
 pub some-none : {k : ℕ} → some k ≡ none → ⊥
 some-none e = let z : _≡_ {A = ℕ} 0 1 = cc in omega arith

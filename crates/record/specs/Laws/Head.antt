@@ -1,16 +1,16 @@
 -- Checks 1 to 6, which ask for a record's head.
-use mathlib.Core.Path.{_≡_, refl, sym, _∙_, ap}
+use mathlib.Core.Path.{_≡_, refl}
 use mathlib.Core.Bool.{Bool, true, false, not, _||_, _&&_}
 use mathlib.Core.List.{List, [], _∷_}
-use mathlib.Core.Option.{Option, some, none}
+use mathlib.Core.Option.{none}
 use Prim.Native.Nat.{ℕ, zero, suc, _+_, _*_, _<_, _≤_}
 use native.Mathlib.Omega.{arith}
 use lib.Dec.{ltb, eqb}
 use lib.ListN.{length}
-use borrow.Author.Tests.{lt-ltb, le-ltb, eq-eqb, ne-eqb, ltb-true, ltb-false, eqb-true, eqb-false, not-true, not-false}
+use borrow.Author.Tests.{lt-ltb, le-ltb, eq-eqb, ne-eqb, ltb-false, eqb-true, eqb-false, not-false}
 use Rattle.record.specs.Format.{trail, length-field, kind-field, mark-field, count-field}
 use Rattle.record.specs.Checks.{Check, few-bytes, other-kind, bad-count, bad-length, short-record, bad-mark, first, sentence, asked-of, nothing, head-checks, fix-checks, read-refusal}
-use Rattle.record.specs.Laws.First.{stops, passes, NoneHolds, no-check, and-not, none-holds, none-front}
+use Rattle.record.specs.Laws.First.{NoneHolds, no-check, and-not, none-holds, none-front}
 
 -- the checks from the sixth on, from the fifth on, and so on
 abbrev pub from-6 : List Check
@@ -33,7 +33,6 @@ abbrev pub says : List ℕ → Check → Bool
 says b = sentence trail (asked-of trail b nothing)
 
 module _ (b : List ℕ) where
-
   pub few : length b < 10 → says b few-bytes ≡ true
   unfolding sentence
   few h = lt-ltb _ _ h

@@ -1,14 +1,14 @@
 -- THE ROUND TRIP. What is written is read again: the fixes, the mark and the count. And an accepted record, written again with its own mark, is its
 -- own bytes.
 use mathlib.Core.Path.{_≡_, refl, sym, _∙_, ap}
-use mathlib.Core.Bool.{Bool, true, false}
+use mathlib.Core.Bool.{Bool}
 use mathlib.Core.List.{List, [], _∷_, _++_, append-assoc}
 use Prim.Native.Nat.{ℕ, zero, suc, _+_, _*_, _-_, _/_, _%_, _^_, _<_, _≤_}
 use native.Mathlib.Nat.{pow-suc}
 use native.Mathlib.Numerals.{add-one}
 use native.Mathlib.Omega.{arith}
 use lib.ListN.{length, getD, take, drop, length-append}
-use lib.Seq.{getD-append-seam, drop-cons}
+use lib.Seq.{getD-append-seam, drop-cons, take-add, drop-drop}
 use lib.IntN.{ℤ, pos, negsuc}
 use mir.Syntax.{w16}
 use mir.Val.{SFits}
@@ -18,8 +18,9 @@ use Rattle.distance.specs.Integers.Tests.{Test, holds, fails, test}
 use Rattle.record.specs.Bytes.{number-at, bytes-of, signed, unsigned}
 use Rattle.record.specs.Format.{trail, each, fix-at, fix-bytes, all-bytes, header-bytes, record-bytes, length-field, kind-field, mark-field, count-field, fixes}
 use Rattle.record.specs.Laws.Numbers.{signed-low, signed-high, fix-parts}
+use Rattle.record.specs.Laws.Each.{length-each}
 use Rattle.record.specs.Laws.Stores.{length-bytes}
-use Rattle.record.specs.Laws.Writing.{length-fix-bytes, length-all-bytes, length-header}
+use Rattle.record.specs.Laws.Writing.{length-fix-bytes, length-header}
 
 -- ---- a number written and read again, wherever it stands
 behind : (p : List ℕ) (x : ℕ) (l : List ℕ) → p ++ x ∷ l ≡ (p ++ x ∷ []) ++ l
@@ -126,3 +127,65 @@ read-record mark l r marked few h =
       count-reads = count;
       fixes-read = ap (each (fix-at trail b) 0) count ∙ ap (λ (c : List ℕ). each (fix-at trail c) 0 (length l)) ef ∙ read-fixes head r 0 nh h;
     }
+
+-- ---- THE OTHER WAY: bytes read and written again are the same bytes. Each is below 256, as a lent byte is.
+abbrev pub AreBytes : List ℕ → Type 0
+AreBytes = All (λ (x : ℕ). x < 256)
+
+byte-at : {b : List ℕ} (at : ℕ) → AreBytes b → getD b at 0 < 256
+byte-at at all-none = omega arith
+byte-at zero (all-more h t) = h
+byte-at (suc at) (all-more h t) = byte-at at t
+
+write-number : (b : List ℕ) (at size : ℕ) → AreBytes b → at + size ≤ length b → bytes-of size (number-at b at size) ≡ take size (drop at b)
+unfolding number-at bytes-of
+write-number b at zero h f = refl
+write-number b at (suc size) h f =
+    let x = getD b at 0 in
+    let n = number-at b (suc at) size in
+    let small = byte-at at h in
+    let low : (x + 256 * n) % 256 ≡ x = omega arith in
+    let high : (x + 256 * n) / 256 ≡ n = omega arith in
+    rw (low, high, drop-cons b at 0 (omega arith)) (ap (λ (l : List ℕ). x ∷ l) (write-number b (suc at) size h (omega arith)))
+
+number-below : (b : List ℕ) (at : ℕ) → AreBytes b → number-at b at 2 < 65536
+unfolding number-at
+number-below b at h = omega (arith, byte-at at h, byte-at (suc at) h)
+
+unsigned-back : (n : ℕ) → n < 65536 → unsigned 2 (signed 2 n) ≡ n
+unfolding unsigned
+unsigned-back n h = go (test 32768 n)
+  where
+    go : {b : Bool} → Test 32768 n b → unsigned 2 (signed 2 n) ≡ n
+    go (holds t) = rw (← signed-high n t h) (omega arith)
+    go (fails t) = rw (← signed-low n t) refl
+
+take-more : (b : List ℕ) (at m n : ℕ) → take m (drop at b) ++ take n (drop (at + m) b) ≡ take (m + n) (drop at b)
+take-more b at m n = sym (take-add m n (drop at b) ∙ rw (drop-drop m at b) refl)
+
+write-fix : (b : List ℕ) (k : ℕ) → AreBytes b → 10 + 8 * k + 8 ≤ length b → fix-bytes trail (fix-at trail b k) ≡ take 8 (drop (10 + 8 * k) b)
+unfolding fix-bytes fix-at
+write-fix b k h f =
+    let at = 10 + 8 * k in
+    rw (unsigned-back (number-at b (at + 4) 2) (number-below b (at + 4) h), unsigned-back (number-at b (at + 4 + 2) 2) (number-below b (at + 4 + 2) h))
+    (rw (write-number b at 4 h (omega arith), write-number b (at + 4) 2 h (omega arith), write-number b (at + 4 + 2) 2 h (omega arith))
+    (rw (take-more b (at + 4) 2 2, take-more b at 4 4) refl))
+
+write-fixes : (b : List ℕ) (k n : ℕ) → AreBytes b → 10 + 8 * k + 8 * n ≤ length b → all-bytes trail (each (fix-at trail b) k n) ≡ take (8 * n) (drop (10 + 8 * k) b)
+unfolding each all-bytes
+write-fixes b k zero h f = refl
+write-fixes b k (suc n) h f =
+    let next : 10 + 8 * suc k ≡ 10 + 8 * k + 8 = omega arith in
+    let all : 8 * suc n ≡ 8 + 8 * n = omega arith in
+    rw (write-fix b k h (omega arith), write-fixes b (suc k) n h (omega arith), next, take-more b (10 + 8 * k) 8 (8 * n), all) refl
+
+pub rewrites : (b : List ℕ) → AreBytes b → length-field b ≡ 10 + 8 * count-field b → kind-field b ≡ 1 → length-field b ≤ length b
+    → record-bytes trail (mark-field b) (fixes trail b) ≡ take (length-field b) b
+unfolding record-bytes header-bytes
+rewrites b h len kind whole =
+    let n = count-field b in
+    let count : length (fixes trail b) ≡ n = length-each (fix-at trail b) 0 n in
+    let first : bytes-of 4 (10 + 8 * n) ≡ take 4 (drop 0 b) = rw (← len) (write-number b 0 4 h (omega arith)) in
+    let second : bytes-of 2 1 ≡ take 2 (drop 4 b) = rw (← kind) (write-number b 4 2 h (omega arith)) in
+    rw (count, first, second, write-number b 6 2 h (omega arith), write-number b 8 2 h (omega arith), write-fixes b 0 n h (omega arith), len)
+    (rw (take-more b 6 2 2, take-more b 4 2 4, take-more b 0 4 6, take-more b 0 10 (8 * n)) refl)

@@ -1,19 +1,19 @@
 -- Checks 7 to 9 in one pass over the fixes: what the passed ones have said so far.
-use mathlib.Core.Path.{_≡_, refl, sym, _∙_, ap, subst}
+use mathlib.Core.Path.{_≡_, refl, sym, _∙_, ap}
 use mathlib.Core.Bool.{Bool, true, false, _||_}
 use mathlib.Core.List.{List, [], _∷_, _++_}
-use mathlib.Core.Option.{Option, some, none}
+use mathlib.Core.Option.{some, none}
 use Prim.Native.Nat.{ℕ, suc, _+_, _-_, _<_, _≤_}
 use native.Mathlib.Omega.{arith}
 use lib.Dec.{leb}
-use lib.IntN.{ℤ, pos}
+use lib.IntN.{pos}
 use Rattle.distance.specs.Fix.{Fix}
 use Rattle.distance.specs.Distance.{seconds}
 use Rattle.distance.specs.Integers.Differences.{diffs}
 use Rattle.distance.specs.Integers.Order.{ltZ-true, ltZ-false}
 use Rattle.record.specs.declared.Scan.{Scan}
 use Rattle.record.specs.Format.{trail, each}
-use Rattle.record.specs.Checks.{Asked, Check, misplaced, unordered, long-span, first, sentence, fix-outside, some-outside, some-early-after, some-early, last-fix, of-ends, too-long, fix-checks}
+use Rattle.record.specs.Checks.{Asked, misplaced, unordered, long-span, first, sentence, fix-outside, some-outside, some-early-after, some-early, last-fix, of-ends, too-long, fix-checks}
 use Rattle.record.specs.Laws.Each.{each-more}
 use Rattle.record.specs.Laws.First.{stops, passes}
 

@@ -1,11 +1,11 @@
 -- Runs of stores (`sets` of the library): one after another, what stands beyond them, and numbers stored and read again.
-use mathlib.Core.Path.{_≡_, refl, sym, _∙_, ap}
+use mathlib.Core.Path.{_≡_, refl, _∙_, ap}
 use mathlib.Core.List.{List, [], _∷_, _++_}
-use Prim.Native.Nat.{ℕ, zero, suc, _+_, _*_, _/_, _%_, _<_, _≤_}
+use Prim.Native.Nat.{ℕ, zero, suc, _+_, _*_, _/_, _%_, _≤_}
 use native.Mathlib.Numerals.{add-one, add-two, add-three}
 use native.Mathlib.Omega.{arith}
 use lib.ListN.{length, getD, drop, set}
-use lib.Seq.{sets, length-sets, sets-eq, getD-set-other}
+use lib.Seq.{sets, sets-eq, getD-set-other}
 use Rattle.distance.specs.Fix.{Fix}
 use Rattle.record.specs.Bytes.{number-at, bytes-of, unsigned}
 use Rattle.record.specs.Format.{trail, fix-bytes, header-bytes}

@@ -1,9 +1,9 @@
 -- The writer: its checks in order, and that what it puts down is the record.
 use mathlib.Core.Path.{_≡_, refl, sym, _∙_, ap}
-use mathlib.Core.Bool.{Bool, true, false, _||_}
+use mathlib.Core.Bool.{Bool, true, false}
 use mathlib.Core.List.{List, [], _∷_, _++_, append-nil, append-assoc}
-use mathlib.Core.Option.{Option, some, none}
-use Prim.Native.Nat.{ℕ, zero, suc, _+_, _*_, _<_, _≤_}
+use mathlib.Core.Option.{some, none}
+use Prim.Native.Nat.{ℕ, _+_, _*_, _<_, _≤_}
 use native.Mathlib.Omega.{arith}
 use lib.ListN.{length, drop, length-append}
 use lib.Seq.{sets}
@@ -98,6 +98,10 @@ none-turned-away (f ∷ l) output h = absurd (omega arith)
 pub length-header : (mark n : ℕ) → length (header-bytes trail mark n) ≡ 10
 unfolding header-bytes bytes-of
 length-header mark n = refl
+
+pub length-record : (mark : ℕ) (l : List Fix) → length (record-bytes trail mark l) ≡ 10 + 8 * length l
+unfolding record-bytes
+length-record mark l = length-append (header-bytes trail mark (length l)) (all-bytes trail l) ∙ rw (length-header mark (length l), length-all-bytes l) refl
 
 -- the head and the fixes make the record, and what stood after it stays
 pub record-stores : (b : List ℕ) (mark : ℕ) (l : List Fix) → 10 + 8 * length l ≤ length b

@@ -26,91 +26,78 @@ abbrev put-decimal-below : ℕ → In 1 put-decimal-kinds.ps
 put-decimal-below t =
     and 1 put-decimal-kinds.ps (falls 1 put-decimal-kinds.ps _<_ μ-put-decimal t) put-decimal.Pre
 
--- src/text.rt:14:20
 put-decimal-add-out : (t : ℕ) → put-decimal-lts.Need-add-out (
   put-decimal-below t,
   put-decimal.Post,
 ) (put-decimal-at t) put-decimal.Post
 put-decimal-add-out t c = search needs
 
--- src/text.rt:14:19
 put-decimal-cast-out : (t : ℕ) → put-decimal-lts.Need-cast-out (
   put-decimal-below t,
   put-decimal.Post,
 ) (put-decimal-at t) put-decimal.Post
 put-decimal-cast-out t c = search needs
 
--- src/text.rt:14:9
 put-decimal-slice-write-out : (t : ℕ) → put-decimal-lts.Need-slice-write-out (
   put-decimal-below t,
   put-decimal.Post,
 ) (put-decimal-at t) put-decimal.Post
 put-decimal-slice-write-out t c = let h = length-one (c .before .before .args .n) (c .if1 .taken) in omega arith
 
--- src/text.rt:15:16
 put-decimal-add-result : (t : ℕ) → put-decimal-lts.Need-add-result (
   put-decimal-below t,
   put-decimal.Post,
 ) (put-decimal-at t) put-decimal.Post
 put-decimal-add-result t c = let h = length-one (c .before .before .args .n) (c .if1 .taken) in search needs
 
--- src/text.rt:15:9
 put-decimal-same-length : (t : ℕ) → put-decimal-lts.Need-same-length (
   put-decimal-below t,
   put-decimal.Post,
 ) (put-decimal-at t) put-decimal.Post
 put-decimal-same-length t c = search needs
 
--- src/text.rt:15:9
 put-decimal-returns : (t : ℕ) → put-decimal-lts.Need-returns (
   put-decimal-below t,
   put-decimal.Post,
 ) (put-decimal-at t) put-decimal.Post
 put-decimal-returns t c = let h = length-one (c .before .before .args .n) (c .if1 .taken) in record { ends = omega arith; holds-it = store-one _ _ _ (c .if1 .taken) }
 
--- src/text.rt:17:9
 put-decimal-put-decimal-requires : (t : ℕ) → put-decimal-lts.Need-put-decimal-requires (
   put-decimal-below t,
   put-decimal.Post,
 ) (put-decimal-at t) put-decimal.Post
 put-decimal-put-decimal-requires t c κs = let h = length-last (c .before .before .before .args .n) (c .before .if1 .left) in (omega arith, omega arith)
 
--- src/text.rt:18:17
 put-decimal-add-out-2 : (t : ℕ) → put-decimal-lts.Need-add-out-2 (
   put-decimal-below t,
   put-decimal.Post,
 ) (put-decimal-at t) put-decimal.Post
 put-decimal-add-out-2 t c = search needs
 
--- src/text.rt:18:16
 put-decimal-cast-out-2 : (t : ℕ) → put-decimal-lts.Need-cast-out-2 (
   put-decimal-below t,
   put-decimal.Post,
 ) (put-decimal-at t) put-decimal.Post
 put-decimal-cast-out-2 t c = search needs
 
--- src/text.rt:18:5
 put-decimal-slice-write-out-2 : (t : ℕ) → put-decimal-lts.Need-slice-write-out-2 (
   put-decimal-below t,
   put-decimal.Post,
 ) (put-decimal-at t) put-decimal.Post
 put-decimal-slice-write-out-2 t c = let h = length-last (c .before .before .before .before .before .before .args .n) (c .before .before .before .before .if1 .left) in let e = c .before .before .put-decimal .ensures .ends in let l = ap length (c .before .before .put-decimal .ensures .holds-it) ∙ length-sets (now (c .before .before .before .before .before .before .args .out)) (c .before .before .before .before .before .before .args .at) (decimal (c .before .before .before .before .before .before .args .n / 10)) in omega arith
 
--- src/text.rt:19:5
 put-decimal-add-result-2 : (t : ℕ) → put-decimal-lts.Need-add-result-2 (
   put-decimal-below t,
   put-decimal.Post,
 ) (put-decimal-at t) put-decimal.Post
 put-decimal-add-result-2 t c = let h = length-last (c .before .before .before .before .before .before .args .n) (c .before .before .before .before .if1 .left) in let e = c .before .before .put-decimal .ensures .ends in let l = ap length (c .before .before .put-decimal .ensures .holds-it) ∙ length-sets (now (c .before .before .before .before .before .before .args .out)) (c .before .before .before .before .before .before .args .at) (decimal (c .before .before .before .before .before .before .args .n / 10)) in search needs
 
--- src/text.rt:9:1
 put-decimal-same-length-2 : (t : ℕ) → put-decimal-lts.Need-same-length-2 (
   put-decimal-below t,
   put-decimal.Post,
 ) (put-decimal-at t) put-decimal.Post
 put-decimal-same-length-2 t c = search needs
 
--- src/text.rt:9:1
 put-decimal-returns-2 : (t : ℕ) → put-decimal-lts.Need-returns-2 (
   put-decimal-below t,
   put-decimal.Post,

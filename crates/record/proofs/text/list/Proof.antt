@@ -13,57 +13,41 @@ use Rattle.record.specs.Laws.Text.{listed, text-record, text-refusal}
 use borrow.Author.Needs.{needs}
 use Rattle.record.proofs.text.list.Statement.{statement}
 use Rattle.record.proofs.text.list.Tie as tie
-use Rattle.record.proofs.text.list.Reads as reads
-use Rattle.record.proofs.text.list.Lts as lts
-use Rattle.record.proofs.check.Reads as check-reads
-use Rattle.record.proofs.count_at.Reads as count-at-reads
-use Rattle.record.proofs.mark_at.Reads as mark-at-reads
-use Rattle.record.proofs.text.put_record.Reads as put-record-reads
-use Rattle.record.proofs.text.put_refusal.Reads as put-refusal-reads
 
 -- in the second arm the record is accepted
 accepted : (c : tie.After-enum-told) → read-refusal trail (now (c .before .before .before .before .args .b)) ≡ none
 accepted c = sym (c .before .before .check .ensures) ∙ ap refused (c .enum-told .given .1)
 
--- src/text.rt:134:9
 check-requires : tie.Need-check-requires
 check-requires c κs = search needs
 
--- src/text.rt:136:26
 enum-known-v : tie.Need-enum-known-v
 enum-known-v c = search needs
 
--- src/text.rt:136:32
 put-refusal-requires : tie.Need-put-refusal-requires
 put-refusal-requires c κs = search needs
 
--- src/text.rt:137:41
 enum-told : tie.Need-enum-told
 enum-told c = search needs
 
--- src/text.rt:137:49
 count-at-requires : tie.Need-count-at-requires
 count-at-requires c κs = accepted-head (now (c .before .before .before .before .before .args .b)) (accepted (c .before)) .ten
 
--- src/text.rt:137:62
 mark-at-requires : tie.Need-mark-at-requires
 mark-at-requires c κs = accepted-head (now (c .before .before .before .before .before .before .args .b)) (accepted (c .before .before)) .ten
 
--- src/text.rt:137:30
 put-record-requires : tie.Need-put-record-requires
 put-record-requires c κs =
     let h = accepted-head (now (c .before .before .before .before .before .before .before .args .b)) (accepted (c .before .before .before)) in
     let n = c .before .count-at .ensures .0 in
     (omega (arith, h .few-fixes), omega (arith, h .whole), c .mark-at .ensures .1, search needs)
 
--- src/text.rt:131:1
 returns : tie.Need-returns
 returns c =
     let e = c .put-refusal .ensures in
     let t = listed (text trail (now (c .before .before .before .before .before .before .before .args .b))) (text-refusal _ _ (sym (c .before .before .before .before .before .check .ensures) ∙ ap refused (c .before .before .before .v .given .1))) (e .0) (let l : 118805 ≤ length (c .before .before .before .before .before .before .before .args .out .now) = search needs in omega (arith, e .1)) in
     (t .0, omega (arith, e .1), t .1)
 
--- src/text.rt:131:1
 returns-2 : tie.Need-returns-2
 returns-2 c =
     let e = c .put-record .ensures in

@@ -1,4 +1,4 @@
-use Prim.Native.Nat.{_+_, _≤_}
+use Prim.Native.Nat.{_≤_}
 use native.Mathlib.Omega.{arith}
 use lib.ListN.{length}
 use Rattle.record.specs.Text.{decimal}
@@ -6,11 +6,6 @@ use Rattle.record.specs.Laws.Text.{decimal-short, stored-then, first-lin
 use borrow.Author.Needs.{needs}
 use Rattle.record.proofs.text.put_first_line.Statement.{statement}
 use Rattle.record.proofs.text.put_first_line.Tie as tie
-use Rattle.record.proofs.text.put_first_line.Reads as reads
-use Rattle.record.proofs.text.put_first_line.Lts as lts
-use Rattle.record.proofs.text.put_decimal.Reads as put-decimal-reads
-use Rattle.record.proofs.text.put_mark.Reads as put-mark-reads
-use Rattle.record.proofs.text.put_word.Reads as put-word-reads
 
 -- a count has at most four digits
 four : (s : tie.Start) → length (decimal (s .args .count)) ≤ 4
@@ -26,48 +21,38 @@ to-mark c = omega (arith, c .put-word2 .ensures .ends, to-gap (c .before .before
 to-end : (c : tie.After-put-mark) → c .put-mark .result ≤ 16
 to-end c = omega (arith, c .put-mark .ensures .1, to-mark (c .before .before .before .before))
 
--- src/text.rt:83:35
 slice-aggregate-put-word : tie.Need-slice-aggregate-put-word
 slice-aggregate-put-word c = search needs
 
--- src/text.rt:83:9
 put-word-requires : tie.Need-put-word-requires
 put-word-requires c κs = search needs
 
--- src/text.rt:84:9
 put-decimal-requires : tie.Need-put-decimal-requires
 put-decimal-requires c κs = omega (arith, c .before .before .before .put-word .ensures .ends, four (c .before .before .before .before .before .before .before))
 
--- src/text.rt:85:33
 slice-aggregate-put-word-2 : tie.Need-slice-aggregate-put-word-2
 slice-aggregate-put-word-2 c = search needs
 
--- src/text.rt:85:9
 put-word-requires-2 : tie.Need-put-word-requires-2
 put-word-requires-2 c κs = omega (arith, to-gap (c .before .before .before .before))
 
--- src/text.rt:86:9
 put-mark-requires : tie.Need-put-mark-requires
 put-mark-requires c κs = (c .before .before .before .before .before .before .before .before .before .before .before .before .before .before .before .before .pre .1, omega (arith, to-mark (c .before .before .before)))
 
--- src/text.rt:87:24
 slice-aggregate-put-word-3 : tie.Need-slice-aggregate-put-word-3
 slice-aggregate-put-word-3 c = search needs
 
--- src/text.rt:87:5
 put-word-requires-3 : tie.Need-put-word-requires-3
 put-word-requires-3 c κs = omega (arith, to-end (c .before .before .before .before))
 
--- src/text.rt:79:1
 same-length : tie.Need-same-length
 same-length c = search needs
 
--- src/text.rt:79:1
 returns : tie.Need-returns
 returns c = (
   rw (first-line-is (c .before .before .before .before .before .before .before .before .before .before .before .before .before .before .before .before .before .before .before .before .before .before .before .before .args .count) (c .before .before .before .before .before .before .before .before .before .before .before .before .before .before .before .before .before .before .before .before .before .before .before .before .args .mark))
-  (stored-then (c .before .before .before .before .before .before .before .before .before .before .before .before .before .before .before .before .before .before .before .before .put-word .ensures)
-  (stored-then (c .before .before .before .before .before .before .before .before .before .before .before .before .before .before .before .before .put-decimal .ensures) (stored-then (c .before .before .before .before .before .before .before .before .before .before .before .put-word2 .ensures) (stored-then (c .before .before .before .before .before .before .before .put-mark .ensures .0) (c .before .before .put-word3 .ensures))))),
+      (stored-then (c .before .before .before .before .before .before .before .before .before .before .before .before .before .before .before .before .before .before .before .before .put-word .ensures)
+      (stored-then (c .before .before .before .before .before .before .before .before .before .before .before .before .before .before .before .before .put-decimal .ensures) (stored-then (c .before .before .before .before .before .before .before .before .before .before .before .put-word2 .ensures) (stored-then (c .before .before .before .before .before .before .before .put-mark .ensures .0) (c .before .before .put-word3 .ensures))))),
   omega (arith, c .before .before .put-word3 .ensures .ends, to-end (c .before .before .before .before .before .before .before)),
 )
 

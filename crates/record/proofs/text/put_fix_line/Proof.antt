@@ -9,11 +9,6 @@ use Rattle.record.specs.Laws.Text.{stored-then, ten-digits, fix-line-is}
 use borrow.Author.Needs.{needs}
 use Rattle.record.proofs.text.put_fix_line.Statement.{statement}
 use Rattle.record.proofs.text.put_fix_line.Tie as tie
-use Rattle.record.proofs.text.put_fix_line.Reads as reads
-use Rattle.record.proofs.text.put_fix_line.Lts as lts
-use Rattle.record.proofs.text.put_decimal.Reads as put-decimal-reads
-use Rattle.record.proofs.text.put_integer.Reads as put-integer-reads
-use Rattle.record.proofs.text.put_word.Reads as put-word-reads
 
 -- the time has at most ten digits
 ten : (s : tie.Start) → length (decimal (s .args .f .t .0)) ≤ 10
@@ -38,64 +33,51 @@ to-y c = omega (arith, c .put-word3 .ensures .ends, to-second (c .before .before
 to-end : (c : tie.After-put-integer2) → c .put-integer2 .result ≤ c .before .before .before .before .before .before .before .before .before .before .before .before .before .before .before .before .before .before .before .before .before .before .before .before .before .before .before .args .at + 28
 to-end c = omega (arith, c .put-integer2 .ensures .1, to-y (c .before .before .before .before))
 
--- src/text.rt:58:34
 slice-aggregate-put-word : tie.Need-slice-aggregate-put-word
 slice-aggregate-put-word c = search needs
 
--- src/text.rt:58:9
 put-word-requires : tie.Need-put-word-requires
 put-word-requires c κs = search needs
 
--- src/text.rt:59:9
 put-decimal-requires : tie.Need-put-decimal-requires
 put-decimal-requires c κs = omega (arith, to-time (c .before .before .before), ten (c .before .before .before .before .before .before .before .before))
 
--- src/text.rt:60:32
 slice-aggregate-put-word-2 : tie.Need-slice-aggregate-put-word-2
 slice-aggregate-put-word-2 c = search needs
 
--- src/text.rt:60:9
 put-word-requires-2 : tie.Need-put-word-requires-2
 put-word-requires-2 c κs = omega (arith, to-gap (c .before .before .before .before))
 
--- src/text.rt:61:9
 put-integer-requires : tie.Need-put-integer-requires
 put-integer-requires c κs = omega (arith, to-x (c .before .before .before))
 
--- src/text.rt:62:35
 slice-aggregate-put-word-3 : tie.Need-slice-aggregate-put-word-3
 slice-aggregate-put-word-3 c = search needs
 
--- src/text.rt:62:9
 put-word-requires-3 : tie.Need-put-word-requires-3
 put-word-requires-3 c κs = omega (arith, to-second (c .before .before .before .before))
 
--- src/text.rt:63:9
 put-integer-requires-2 : tie.Need-put-integer-requires-2
 put-integer-requires-2 c κs = omega (arith, to-y (c .before .before .before))
 
--- src/text.rt:64:24
 slice-aggregate-put-word-4 : tie.Need-slice-aggregate-put-word-4
 slice-aggregate-put-word-4 c = search needs
 
--- src/text.rt:64:5
 put-word-requires-4 : tie.Need-put-word-requires-4
 put-word-requires-4 c κs = omega (arith, to-end (c .before .before .before .before))
 
--- src/text.rt:53:1
 same-length : tie.Need-same-length
 same-length c = search needs
 
--- src/text.rt:53:1
 returns : tie.Need-returns
 returns c = (
   rw (fix-line-is (fixOf (c .before .before .before .before .before .before .before .before .before .before .before .before .before .before .before .before .before .before .before .before .before .before .before .before .before .before .before .before .before .before .before .before .before .before .args .f)))
-  (stored-then (c .before .before .before .before .before .before .before .before .before .before .before .before .before .before .before .before .before .before .before .before .before .before .before .before .before .before .before .before .before .put-word .ensures)
-  (stored-then (c .before .before .before .before .before .before .before .before .before .before .before .before .before .before .before .before .before .before .before .before .before .before .before .before .before .put-decimal .ensures)
-  (stored-then (c .before .before .before .before .before .before .before .before .before .before .before .before .before .before .before .before .before .before .before .before .put-word2 .ensures)
-  (stored-then (c .before .before .before .before .before .before .before .before .before .before .before .before .before .before .before .before .put-integer .ensures .0)
-  (stored-then (c .before .before .before .before .before .before .before .before .before .before .before .put-word3 .ensures)
-  (stored-then (c .before .before .before .before .before .before .before .put-integer2 .ensures .0) (c .before .before .put-word4 .ensures))))))),
+      (stored-then (c .before .before .before .before .before .before .before .before .before .before .before .before .before .before .before .before .before .before .before .before .before .before .before .before .before .before .before .before .before .put-word .ensures)
+      (stored-then (c .before .before .before .before .before .before .before .before .before .before .before .before .before .before .before .before .before .before .before .before .before .before .before .before .before .put-decimal .ensures)
+      (stored-then (c .before .before .before .before .before .before .before .before .before .before .before .before .before .before .before .before .before .before .before .before .put-word2 .ensures)
+      (stored-then (c .before .before .before .before .before .before .before .before .before .before .before .before .before .before .before .before .put-integer .ensures .0)
+      (stored-then (c .before .before .before .before .before .before .before .before .before .before .before .put-word3 .ensures)
+      (stored-then (c .before .before .before .before .before .before .before .put-integer2 .ensures .0) (c .before .before .put-word4 .ensures))))))),
   omega (arith, c .before .before .put-word4 .ensures .ends, to-end (c .before .before .before .before .before .before .before)),
 )
 

@@ -8,10 +8,6 @@ use Rattle.record.specs.Text.{fix-lines}
 use Rattle.record.specs.Laws.Text.{Stored, stored-length, lines-none, lines-more}
 use Rattle.record.proofs.text.put_fix_lines.Statement.{statement}
 use Rattle.record.proofs.text.put_fix_lines.Tie as tie
-use Rattle.record.proofs.text.put_fix_lines.Reads as reads
-use Rattle.record.proofs.text.put_fix_lines.Lts as lts
-use Rattle.record.proofs.fix_at.Reads as fix-at-reads
-use Rattle.record.proofs.text.put_fix_line.Reads as put-fix-line-reads
 
 abbrev Inv-loop : tie.InvT-loop
 Inv-loop out₀ at b n end₀ k₀ out end k = (k ≤ n) × (length out ≡ length out₀) × (end ≤ at + 29 * k) × Stored out₀ at out end (fix-lines (each (fix-at trail b) 0 k))
@@ -19,38 +15,30 @@ Inv-loop out₀ at b n end₀ k₀ out end k = (k ≤ n) × (length out ≡ leng
 abbrev μ-loop : tie.MeasureT-loop
 μ-loop out₀ at b n end₀ k₀ out end k = n - k
 
--- src/text.rt:113:5
 loop-holds : tie.Need-loop-holds Inv-loop μ-loop
 loop-holds c = (omega arith, refl, omega arith, lines-none _ _ _)
 
--- src/text.rt:114:38
 fix-at-requires : tie.Need-fix-at-requires Inv-loop μ-loop
 fix-at-requires c κs = search needs
 
--- src/text.rt:114:9
 put-fix-line-requires : tie.Need-put-fix-line-requires Inv-loop μ-loop
 put-fix-line-requires c κs = search needs
 
--- src/text.rt:115:9
 add-k : tie.Need-add-k Inv-loop μ-loop
 add-k c = search needs
 
--- src/text.rt:113:5
 loop-less : tie.Need-loop-less Inv-loop μ-loop
 loop-less c = search needs
 
--- src/text.rt:113:5
 loop-again : tie.Need-loop-again Inv-loop μ-loop
 loop-again c =
     let i = c .before .before .before .before .before .before .loop .inv in
     let e = c .before .before .put-fix-line .ensures in
     (omega arith, stored-length (e .0) ∙ i .1, omega (arith, e .1), lines-more _ _ (c .before .before .before .before .before .before .loop .k) (c .before .before .before .fix-at .ensures) (i .3) (e .0))
 
--- src/text.rt:107:1
 same-length : tie.Need-same-length Inv-loop μ-loop
 same-length c = search needs
 
--- src/text.rt:107:1
 returns : tie.Need-returns Inv-loop μ-loop
 returns c =
     let i = c .before .loop .inv in

@@ -8,61 +8,46 @@ use borrow.Author.Needs.{needs}
 use Rattle.record.specs.Laws.Text.{SignFits, sign-fits, below-zero, from-zero, store-sign, store-plain}
 use Rattle.record.proofs.text.put_integer.Statement.{statement}
 use Rattle.record.proofs.text.put_integer.Tie as tie
-use Rattle.record.proofs.text.put_integer.Reads as reads
-use Rattle.record.proofs.text.put_integer.Lts as lts
-use Rattle.record.proofs.text.put_decimal.Reads as put-decimal-reads
 
 ranges : (s : tie.Start) → SignFits (s .args .c .0)
 ranges s = sign-fits (search needs)
 
--- src/text.rt:28:13
 cast-z : tie.Need-cast-z
 cast-z c = let k = ranges (c .before .before .before) in search needs
 
--- src/text.rt:30:9
 slice-write-out : tie.Need-slice-write-out
 slice-write-out c = search needs
 
--- src/text.rt:31:33
 add-put-decimal : tie.Need-add-put-decimal
 add-put-decimal c = search needs
 
--- src/text.rt:31:42
 sub-put-decimal : tie.Need-sub-put-decimal
 sub-put-decimal c = let k = ranges (c .before .before .before .before .before) in search needs
 
--- src/text.rt:31:41
 cast-put-decimal : tie.Need-cast-put-decimal
 cast-put-decimal c = let k = ranges (c .before .before .before .before .before) in let m = below-zero (c .before .before .before .before .before .args .c .0) (k .z16) (simp (toZ-ofZ, k .z16, k .z32) at (c .before .if1 .taken)) in let g = m .0 in search needs
 
--- src/text.rt:31:9
 put-decimal-requires : tie.Need-put-decimal-requires
 put-decimal-requires c κs = let k = ranges (c .before .before .before .before .before) in let m = below-zero (c .before .before .before .before .before .args .c .0) (k .z16) (simp (toZ-ofZ, k .z16, k .z32) at (c .before .if1 .taken)) in simp (toZ-ofZ, k .z16, k .z32, k .minus32, length-set) (omega (arith, m .0 .five))
 
--- src/text.rt:31:9
 same-length : tie.Need-same-length
 same-length c = let k = ranges (c .before .before .before .before .before .before .before .before) in ap length (c .before .before .put-decimal .ensures .holds-it) ∙ simp (length-sets, length-set)
 
--- src/text.rt:31:9
 returns : tie.Need-returns
 returns c =
     let k = ranges (c .before .before .before .before .before .before .before .before) in
     let m = below-zero (c .before .before .before .before .before .before .before .before .args .c .0) (k .z16) (simp (toZ-ofZ, k .z16, k .z32) at (c .before .before .before .before .if1 .taken)) in
     store-sign (now (c .before .before .before .before .before .before .before .before .args .out)) _ _ _ _ _ (m .1) (m .0 .five) (simp (toZ-ofZ, k .z16, k .z32, k .minus32) at (c .before .before .put-decimal .ensures .ends)) (simp (toZ-ofZ, k .z16, k .z32, k .minus32) at (c .before .before .put-decimal .ensures .holds-it))
 
--- src/text.rt:33:26
 cast-put-decimal-2 : tie.Need-cast-put-decimal-2
 cast-put-decimal-2 c = let k = ranges (c .before .before .before .before .before) in let m = from-zero (c .before .before .before .before .before .args .c .0) (k .z16) (simp (toZ-ofZ, k .z16, k .z32) at (c .before .if1 .left)) in let g = m .0 in search needs
 
--- src/text.rt:33:5
 put-decimal-requires-2 : tie.Need-put-decimal-requires-2
 put-decimal-requires-2 c κs = let k = ranges (c .before .before .before .before .before) in let m = from-zero (c .before .before .before .before .before .args .c .0) (k .z16) (simp (toZ-ofZ, k .z16, k .z32) at (c .before .if1 .left)) in simp (toZ-ofZ, k .z16, k .z32) (omega (arith, m .0 .five))
 
--- src/text.rt:24:1
 same-length-2 : tie.Need-same-length-2
 same-length-2 c = search needs
 
--- src/text.rt:24:1
 returns-2 : tie.Need-returns-2
 returns-2 c =
     let k = ranges (c .before .before .before .before .before .before .before .before) in

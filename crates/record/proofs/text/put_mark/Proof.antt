@@ -6,39 +6,28 @@ use Rattle.record.specs.Laws.Text.{five-digits, mark-never, mark-number}
 use borrow.Author.Needs.{needs}
 use Rattle.record.proofs.text.put_mark.Statement.{statement}
 use Rattle.record.proofs.text.put_mark.Tie as tie
-use Rattle.record.proofs.text.put_mark.Reads as reads
-use Rattle.record.proofs.text.put_mark.Lts as lts
-use Rattle.record.proofs.text.put_decimal.Reads as put-decimal-reads
-use Rattle.record.proofs.text.put_word.Reads as put-word-reads
 
 five : (s : tie.Start) → length (decimal (s .args .mark)) ≤ 5
 five s = five-digits _ (omega (arith, s .pre .0))
 
--- src/text.rt:73:34
 slice-aggregate-put-word : tie.Need-slice-aggregate-put-word
 slice-aggregate-put-word c = search needs
 
--- src/text.rt:73:9
 put-word-requires : tie.Need-put-word-requires
 put-word-requires c κs = search needs
 
--- src/text.rt:73:9
 same-length : tie.Need-same-length
 same-length c = search needs
 
--- src/text.rt:73:9
 returns : tie.Need-returns
 returns c = (rw (mark-never (c .before .before .before .before .before .before .before .args .mark) (c .before .before .before .before .before .if1 .taken)) (c .before .before .put-word .ensures), omega (arith, c .before .before .put-word .ensures .ends))
 
--- src/text.rt:75:5
 put-decimal-requires : tie.Need-put-decimal-requires
 put-decimal-requires c κs = omega (arith, five (c .before .before .before))
 
--- src/text.rt:68:1
 same-length-2 : tie.Need-same-length-2
 same-length-2 c = search needs
 
--- src/text.rt:68:1
 returns-2 : tie.Need-returns-2
 returns-2 c = (rw (mark-number (c .before .before .before .before .before .before .args .mark) (c .before .before .before .before .if1 .left)) (c .before .before .put-decimal .ensures), omega (arith, c .before .before .put-decimal .ensures .ends, five (c .before .before .before .before .before .before)))
 

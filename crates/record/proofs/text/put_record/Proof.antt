@@ -5,41 +5,29 @@ use Rattle.record.specs.Laws.Text.{stored-then, record-text-is}
 use borrow.Author.Needs.{needs}
 use Rattle.record.proofs.text.put_record.Statement.{statement}
 use Rattle.record.proofs.text.put_record.Tie as tie
-use Rattle.record.proofs.text.put_record.Reads as reads
-use Rattle.record.proofs.text.put_record.Lts as lts
-use Rattle.record.proofs.text.put_first_line.Reads as put-first-line-reads
-use Rattle.record.proofs.text.put_fix_lines.Reads as put-fix-lines-reads
-use Rattle.record.proofs.text.put_word.Reads as put-word-reads
 
--- src/text.rt:125:37
 cast-put-first-line : tie.Need-cast-put-first-line
 cast-put-first-line c = search needs
 
--- src/text.rt:125:9
 put-first-line-requires : tie.Need-put-first-line-requires
 put-first-line-requires c κs = search needs
 
--- src/text.rt:126:9
 put-fix-lines-requires : tie.Need-put-fix-lines-requires
 put-fix-lines-requires c κs = search needs
 
--- src/text.rt:127:25
 slice-aggregate-put-word : tie.Need-slice-aggregate-put-word
 slice-aggregate-put-word c = search needs
 
--- src/text.rt:127:5
 put-word-requires : tie.Need-put-word-requires
 put-word-requires c κs = search needs
 
--- src/text.rt:121:1
 same-length : tie.Need-same-length
 same-length c = search needs
 
--- src/text.rt:121:1
 returns : tie.Need-returns
 returns c = (
   rw (record-text-is (c .before .before .before .before .before .before .before .before .before .before .before .before .before .before .before .args .n) (c .before .before .before .before .before .before .before .before .before .before .before .before .before .before .before .args .mark) (each (fix-at trail (now (c .before .before .before .before .before .before .before .before .before .before .before .before .before .before .before .args .b))) 0 (c .before .before .before .before .before .before .before .before .before .before .before .before .before .before .before .args .n)))
-  (stored-then (c .before .before .before .before .before .before .before .before .before .before .before .put-first-line .ensures .0) (stored-then (c .before .before .before .before .before .before .before .put-fix-lines .ensures .0) (c .before .before .put-word .ensures))),
+      (stored-then (c .before .before .before .before .before .before .before .before .before .before .before .put-first-line .ensures .0) (stored-then (c .before .before .before .before .before .before .before .put-fix-lines .ensures .0) (c .before .before .put-word .ensures))),
   omega (arith, c .before .before .put-word .ensures .ends, c .before .before .before .before .before .before .before .put-fix-lines .ensures .1, c .before .before .before .before .before .before .before .before .before .before .before .put-first-line .ensures .1),
 )
 

@@ -8,10 +8,6 @@ use Rattle.record.specs.Laws.Text.{decimal-short, stored-then, refusal-l
 use borrow.Author.Needs.{needs}
 use Rattle.record.proofs.text.put_refusal.Statement.{statement}
 use Rattle.record.proofs.text.put_refusal.Tie as tie
-use Rattle.record.proofs.text.put_refusal.Reads as reads
-use Rattle.record.proofs.text.put_refusal.Lts as lts
-use Rattle.record.proofs.text.put_decimal.Reads as put-decimal-reads
-use Rattle.record.proofs.text.put_word.Reads as put-word-reads
 
 three : (s : tie.Start) → length (decimal (s .args .k)) ≤ 3
 three s = let h : Fits w8 (s .args .k) = search needs in decimal-short 2 _ (omega (arith, h .fits))
@@ -19,31 +15,24 @@ three s = let h : Fits w8 (s .args .k) = search needs in decimal-short 2 _ (omeg
 to-end : (c : tie.After-put-decimal) → c .put-decimal .result ≤ 11
 to-end c = omega (arith, c .put-decimal .ensures .ends, c .before .before .before .before .put-word .ensures .ends, three (c .before .before .before .before .before .before .before .before))
 
--- src/text.rt:95:35
 slice-aggregate-put-word : tie.Need-slice-aggregate-put-word
 slice-aggregate-put-word c = search needs
 
--- src/text.rt:95:9
 put-word-requires : tie.Need-put-word-requires
 put-word-requires c κs = search needs
 
--- src/text.rt:96:9
 put-decimal-requires : tie.Need-put-decimal-requires
 put-decimal-requires c κs = omega (arith, c .before .before .before .put-word .ensures .ends, three (c .before .before .before .before .before .before .before))
 
--- src/text.rt:97:24
 slice-aggregate-put-word-2 : tie.Need-slice-aggregate-put-word-2
 slice-aggregate-put-word-2 c = search needs
 
--- src/text.rt:97:5
 put-word-requires-2 : tie.Need-put-word-requires-2
 put-word-requires-2 c κs = omega (arith, to-end (c .before .before .before .before))
 
--- src/text.rt:91:1
 same-length : tie.Need-same-length
 same-length c = search needs
 
--- src/text.rt:91:1
 returns : tie.Need-returns
 returns c = (
   rw (refusal-line-is (c .before .before .before .before .before .before .before .before .before .before .before .before .before .before .before .args .k)) (stored-then (c .before .before .before .before .before .before .before .before .before .before .before .put-word .ensures) (stored-then (c .before .before .before .before .before .before .before .put-decimal .ensures) (c .before .before .put-word2 .ensures))),
