@@ -1,0 +1,6 @@
+-- What is proved of the definitions, each law once.
+pub mod All
+pub mod Furthest
+pub mod Keeps
+pub mod Kept
+pub mod Again
