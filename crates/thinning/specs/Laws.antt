@@ -4,3 +4,5 @@ pub mod Furthest
 pub mod Keeps
 pub mod Kept
 pub mod Again
+pub mod Trail
+pub mod Near
