@@ -6,3 +6,4 @@ pub mod Kept
 pub mod Again
 pub mod Trail
 pub mod Near
+pub mod Marks
