@@ -6,4 +6,6 @@ pub mod Kept
 pub mod Again
 pub mod Trail
 pub mod Near
+pub mod Search
+pub mod KeptBy
 pub mod Marks
