@@ -1,6 +1,6 @@
 -- What stays of a trail: its ends, a sublist in order, with every dropped fix within e of its piece's chord; and how large the count can be.
 use mathlib.Core.Path.{_≡_, refl, ap}
-use mathlib.Core.List.{List, [], _∷_, _++_, append-assoc, Sublistᴰ, Sublistᴰ·slnil, Sublistᴰ·cons-cons, Sublistᴰ·nil-sublist, Sublistᴰ·append}
+use mathlib.Core.List.{List, [], _∷_, _++_, append-assoc, Sublistᴰ, Sublistᴰ·slnil, Sublistᴰ·cons, Sublistᴰ·cons-cons, Sublistᴰ·nil-sublist, Sublistᴰ·append}
 use Prim.Native.Nat.{ℕ, suc, _+_, _*_, _≤_}
 use native.Mathlib.Nat.{le-refl}
 use native.Mathlib.Omega.{arith}
@@ -29,6 +29,11 @@ module _ {A : Type 0} where
   unfolding but-last
   but-last-snoc m [] j = refl
   but-last-snoc m (n ∷ l) j = ap (λ (r : List A). m ∷ r) (but-last-snoc n l j)
+
+  pub sublist-length : {l k : List A} → Sublistᴰ k l → length k ≤ length l
+  sublist-length Sublistᴰ·slnil = omega arith
+  sublist-length (Sublistᴰ·cons s) = omega (arith, sublist-length s)
+  sublist-length (Sublistᴰ·cons-cons h s) = omega (arith, sublist-length s)
 
   last-snoc : (m : A) (l : List A) (j : A) → last m (l ++ j ∷ []) ≡ j
   unfolding last

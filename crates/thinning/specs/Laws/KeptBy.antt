@@ -2,7 +2,7 @@
 use mathlib.Core.Path.{_≡_, refl, _∙_, ap}
 use mathlib.Core.Bool.{Bool, true, false, cond}
 use mathlib.Core.Logic.{⊎-elim}
-use mathlib.Core.List.{List, [], _∷_, _++_}
+use mathlib.Core.List.{List, [], _∷_, _++_, append-nil}
 use Prim.Native.Nat.{ℕ, zero, suc, _+_, _-_, _<_, _≤_}
 use native.Mathlib.Nat.{le-refl, eq-or-lt-of-le}
 use native.Mathlib.Omega.{arith}
@@ -54,11 +54,6 @@ module _ {A : Type 0} (marks : List Bool) where
       go y z true h = ap (λ (l : List A). i ∷ l) h
       go y z false h = h
 
-  -- one position that is marked, or isn't
-  pub kept-by-one : (k : ℕ) (i : A) → getD marks k false ≡ true → kept-by marks k (i ∷ []) ≡ i ∷ []
-  unfolding kept-by
-  kept-by-one k i h = rw h refl
-
   pub kept-by-length : (k : ℕ) (l : List A) → length (kept-by marks k l) ≤ length l
   unfolding kept-by
   kept-by-length k [] = omega arith
@@ -82,12 +77,21 @@ module _ {A : Type 0} (marks : List Bool) where
       let rest = kept-by-same others (suc k) l (λ i p q. h i (omega arith) (omega arith)) in
       rw (h k (le-refl k) (omega arith), rest) refl
 
--- the compaction's step: one position more
-pub kept-by-more : {A : Type 0} (marks : List Bool) (f : ℕ → A) (n : ℕ) → kept-by marks 0 (each f 0 (n + 1)) ≡ kept-by marks 0 (each f 0 n) ++ kept-by marks n (f n ∷ [])
-kept-by-more marks f n =
-    let p : n + 1 ≡ suc n = omega arith in
-    let q : 0 + n ≡ n = omega arith in
-    rw (p, each-more f 0 n, kept-by-append marks 0 (each f 0 n) (f (0 + n) ∷ []), length-each f 0 n, q) refl
+-- one position more, which is marked or isn't
+module _ {A : Type 0} (marks : List Bool) (f : ℕ → A) (n : ℕ) where
+  one-more : kept-by marks 0 (each f 0 (n + 1)) ≡ kept-by marks 0 (each f 0 n) ++ kept-by marks n (f n ∷ [])
+  one-more =
+      let p : n + 1 ≡ suc n = omega arith in
+      let q : 0 + n ≡ n = omega arith in
+      rw (p, each-more f 0 n, kept-by-append marks 0 (each f 0 n) (f (0 + n) ∷ []), length-each f 0 n, q) refl
+
+  pub kept-by-more : getD marks n false ≡ true → kept-by marks 0 (each f 0 (n + 1)) ≡ kept-by marks 0 (each f 0 n) ++ f n ∷ []
+  unfolding kept-by
+  kept-by-more h = one-more ∙ rw h refl
+
+  pub kept-by-skip : getD marks n false ≡ false → kept-by marks 0 (each f 0 (n + 1)) ≡ kept-by marks 0 (each f 0 n)
+  unfolding kept-by
+  kept-by-skip h = one-more ∙ rw h (append-nil _)
 
 -- a span in which m is marked
 pub kept-inner : {A : Type 0} (f : ℕ → A) (marks : List Bool) (lo m hi : ℕ) → lo < m → m < hi → getD marks m false ≡ true
@@ -112,7 +116,7 @@ kept-ends f marks n h g =
     let e : 1 + length (inner f 0 (suc n)) ≡ suc n = omega (arith, length-each f 1 (suc n - 1)) in
     rw (h, kept-by-append marks 1 (inner f 0 (suc n)) (f (suc n) ∷ []), e, g) refl
 
--- ---- the ends are marked
+-- ---- cleared marks, and the two ends marked
 cleared : (N k : ℕ) → getD (replicate N false) k false ≡ false
 cleared N k = go (test N k)
   where

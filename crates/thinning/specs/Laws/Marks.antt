@@ -118,7 +118,7 @@ module _ {A : Type 0} (far : (i m j : A) → ℕ) (bound : (e : ℕ) (i j : A) �
       let z : suc (suc n) - 1 ≡ suc n = omega arith in
       more-fixes n (r .room) (r .first) (rw z at (r .last)) (λ i p q. r .clear i p (rw z q)) (rw z at m)
 
--- the same of fixes, and of a list of marks that was cleared
+-- the same at fixes
 pub marks-thinning : (f : ℕ → Fix) (e n : ℕ) {c : ℕ} {k k2 : List Bool} → 1 ≤ n → Ready n k → Marks deviation allowance f e 0 (n - 1) k k2 c
     → thinning e (each f 0 n) ≡ record { kept = kept-by k2 0 (each f 0 n); count = c }
 unfolding thinning

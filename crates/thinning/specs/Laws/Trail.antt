@@ -1,6 +1,6 @@
 -- The laws of thinning, at fixes.
-use mathlib.Core.Path.{_≡_, refl, ap}
-use mathlib.Core.List.{List, [], _∷_, _++_, Sublistᴰ}
+use mathlib.Core.Path.{_≡_, refl, sym, _∙_}
+use mathlib.Core.List.{List, [], _∷_, Sublistᴰ}
 use Prim.Native.Nat.{ℕ, zero, suc, _+_, _*_, _-_, _<_, _≤_, max}
 use native.Mathlib.Nat.{max-eq-left, max-eq-right}
 use native.Mathlib.Omega.{arith}
@@ -10,9 +10,11 @@ use Rattle.distance.specs.Fix.{Fix, Rising, rising, later}
 use Rattle.distance.specs.Distance.{deviation, allowance, within}
 use Rattle.distance.specs.Laws.Deviation.{allowance-grows}
 use Rattle.distance.specs.Laws.Place.{after-last, after-rest}
+use Rattle.record.specs.Checks.{last-fix}
+use Rattle.record.specs.Laws.Scan.{last-more}
 use Rattle.thinning.specs.Thinning.{thin-span, thin, thinning, thinned}
 use Rattle.thinning.specs.Laws.All.{All}
-use Rattle.thinning.specs.Laws.Kept.{Pieces, no-piece, alone, piece, thin-ends, thin-pieces, thin-sublist, thin-all, thin-count}
+use Rattle.thinning.specs.Laws.Kept.{Ends, no-end, one-end, two-ends, ends, Pieces, no-piece, alone, piece, thin-ends, sublist-length, thin-pieces, thin-sublist, thin-all, thin-count}
 use Rattle.thinning.specs.Laws.Again.{thin-again, thin-greater}
 
 -- the test that `thin-span` makes of each inner fix is the distance layer's
@@ -33,9 +35,20 @@ again-no-greater e f l h = rw (again e f l, max-eq-left h)
 
 -- ---- which fixes stay
 -- the first and the last
-pub ends-stay : (e : ℕ) (i : Fix) (l : List Fix) (j : Fix) → (k : List Fix) × (thinned e (i ∷ (l ++ j ∷ [])) ≡ i ∷ (k ++ j ∷ []))
-unfolding thinning
-ends-stay e i l j = ((thin-span deviation allowance (length l) e i l j) .kept, ap (λ r. r .kept) (thin-ends deviation allowance e i l j))
+pub data SameEnds : (l k : List Fix) → Type 0 where
+  no-fixes : SameEnds [] []
+  same-ends : {i : Fix} {l k : List Fix} → last-fix i k ≡ last-fix i l → SameEnds (i ∷ l) (i ∷ k)
+
+pub ends-stay : (e : ℕ) (l : List Fix) → SameEnds l (thinned e l)
+unfolding thinning thin
+ends-stay e l = go (ends l)
+  where
+    go : {l : List Fix} → Ends l → SameEnds l (thinned e l)
+    go no-end = no-fixes
+    go (one-end i) = same-ends refl
+    go (two-ends i l j) =
+        let k = (thin-span deviation allowance (length l) e i l j) .kept in
+        rw (thinned, thin-ends deviation allowance e i l j) (same-ends (last-more i k j ∙ sym (last-more i l j)))
 
 -- "A record of one fix keeps it."
 pub one-stays : (e : ℕ) (i : Fix) → thinning e (i ∷ []) ≡ record { kept = i ∷ []; count = 0 }
@@ -46,6 +59,9 @@ one-stays e i = refl
 pub in-order : (e : ℕ) (l : List Fix) → Sublistᴰ (thinned e l) l
 unfolding thinning
 in-order e l = thin-sublist deviation allowance e l
+
+pub no-more : (e : ℕ) (l : List Fix) → length (thinned e l) ≤ length l
+no-more e l = sublist-length (in-order e l)
 
 -- so that what holds of all holds of them
 pub kept-all : {P : Fix → Type 0} (e : ℕ) (l : List Fix) → All P l → All P (thinned e l)
