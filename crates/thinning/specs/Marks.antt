@@ -32,7 +32,7 @@ module _ {A : Type 0} (far : (i m j : A) → ℕ) (bound : (e : ℕ) (i j : A) �
     -- no inner fix
     marks-none : {lo hi : ℕ} {k : List Bool} → hi - lo < 2 → Marks lo hi k k 0
     -- all within e
-    marks-ends : {lo hi m v : ℕ} {k : List Bool} → 1 < hi - lo → Furthest (λ x. far (f lo) (f x) (f hi)) lo hi m v → v ≤ bound e (f lo) (f hi) → Marks lo hi k k (hi - lo - 1)
+    marks-ends : {lo hi m v : ℕ} {k : List Bool} → Furthest (λ x. far (f lo) (f x) (f hi)) lo hi m v → v ≤ bound e (f lo) (f hi) → Marks lo hi k k (hi - lo - 1)
     -- split at m, which is marked, and then the two pieces
-    marks-split : {lo hi m v c d : ℕ} {k k1 k2 : List Bool} → 1 < hi - lo → Furthest (λ x. far (f lo) (f x) (f hi)) lo hi m v → bound e (f lo) (f hi) < v
+    marks-split : {lo hi m v c d : ℕ} {k k1 k2 : List Bool} → Furthest (λ x. far (f lo) (f x) (f hi)) lo hi m v → bound e (f lo) (f hi) < v
         → Marks lo m (set k m true) k1 c → Marks m hi k1 k2 d → Marks lo hi k k2 (hi - lo - 1 + c + d)

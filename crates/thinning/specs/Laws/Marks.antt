@@ -3,7 +3,7 @@ use mathlib.Core.Path.{_≡_, refl, _∙_}
 use mathlib.Core.Bool.{Bool, true, false}
 use mathlib.Core.List.{List}
 use Prim.Native.Nat.{ℕ, zero, suc, _+_, _*_, _-_, _<_, _≤_}
-use native.Mathlib.Nat.{le-refl, mul-le-mul-left}
+use native.Mathlib.Nat.{le-refl, mul-le-mul, mul-le-mul-left}
 use native.Mathlib.Omega.{arith}
 use lib.ListN.{length, getD, length-set}
 use lib.Seq.{getD-set-same, getD-set-other}
@@ -36,14 +36,14 @@ split-count a b c d h g = let e : suc a + suc b - 1 ≡ suc a + b = omega arith 
 module _ {A : Type 0} (far : (i m j : A) → ℕ) (bound : (e : ℕ) (i j : A) → ℕ) (f : ℕ → A) (e : ℕ) where
   pub marks-length : {lo hi c : ℕ} {k k2 : List Bool} → Marks far bound f e lo hi k k2 c → length k2 ≡ length k
   marks-length (marks-none h) = refl
-  marks-length (marks-ends h x g) = refl
-  marks-length (marks-split {m} {k} h x g one two) = marks-length two ∙ marks-length one ∙ length-set k m true
+  marks-length (marks-ends x g) = refl
+  marks-length (marks-split {m} {k} x g one two) = marks-length two ∙ marks-length one ∙ length-set k m true
 
   -- the count stays small
   pub marks-count : {lo hi c : ℕ} {k k2 : List Bool} → Marks far bound f e lo hi k k2 c → 2 * c + (hi - lo) ≤ (hi - lo) * (hi - lo)
   marks-count (marks-none {lo} {hi} h) = none-count (hi - lo) h
-  marks-count (marks-ends {lo} {hi} h x g) = ends-count (hi - lo) h
-  marks-count (marks-split {lo} {hi} {m} {v} {c} {d} h x g one two) =
+  marks-count (marks-ends {lo} {hi} x g) = ends-count (hi - lo) (omega (arith, x .low, x .high))
+  marks-count (marks-split {lo} {hi} {m} {v} {c} {d} x g one two) =
       let p = x .low in
       let q = x .high in
       let a : m - lo ≡ suc (m - suc lo) = omega arith in
@@ -51,18 +51,26 @@ module _ {A : Type 0} (far : (i m j : A) → ℕ) (bound : (e : ℕ) (i j : A) �
       let ab : hi - lo ≡ suc (m - suc lo) + suc (hi - suc m) = omega arith in
       rw ab (split-count (m - suc lo) (hi - suc m) c d (rw a at (marks-count one)) (rw b at (marks-count two)))
 
+  -- of at most 4,096 fixes: (n − 1)(n − 2)/2
+  pub marks-small : {lo hi c : ℕ} {k k2 : List Bool} → Marks far bound f e lo hi k k2 c → hi ≤ lo + 4095 → c ≤ 8382465
+  marks-small {lo} {hi} m h = small (hi - lo) (omega arith) (marks-count m)
+    where
+      small : {c : ℕ} (n : ℕ) → n ≤ 4095 → 2 * c + n ≤ n * n → c ≤ 8382465
+      small zero h g = omega arith
+      small (suc n) h g = omega (arith, mul-le-mul {n₁ = n} {m₁ = suc n} {n₂ = 4094} {m₂ = 4095} (omega arith) h)
+
   -- outside the span marks stay as they were
   pub marks-low : {lo hi c : ℕ} {k k2 : List Bool} → Marks far bound f e lo hi k k2 c → (i : ℕ) → i ≤ lo → getD k2 i false ≡ getD k i false
   marks-low (marks-none h) i l = refl
-  marks-low (marks-ends h x g) i l = refl
-  marks-low (marks-split {m} {k} h x g one two) i l =
+  marks-low (marks-ends x g) i l = refl
+  marks-low (marks-split {m} {k} x g one two) i l =
       let p = x .low in
       marks-low two i (omega arith) ∙ marks-low one i l ∙ getD-set-other k m i true false (omega arith)
 
   pub marks-high : {lo hi c : ℕ} {k k2 : List Bool} → Marks far bound f e lo hi k k2 c → (i : ℕ) → hi ≤ i → getD k2 i false ≡ getD k i false
   marks-high (marks-none h) i l = refl
-  marks-high (marks-ends h x g) i l = refl
-  marks-high (marks-split {m} {k} h x g one two) i l =
+  marks-high (marks-ends x g) i l = refl
+  marks-high (marks-split {m} {k} x g one two) i l =
       let p = x .high in
       marks-high two i l ∙ marks-high one i (omega arith) ∙ getD-set-other k m i true false (omega arith)
 
@@ -71,11 +79,11 @@ module _ {A : Type 0} (far : (i m j : A) → ℕ) (bound : (e : ℕ) (i j : A) �
       → Keeps far bound e (f lo) (inner f lo hi) (f hi) (kept-by k2 (suc lo) (inner f lo hi)) c
   unfolding each kept-by
   marks-keeps (marks-none {lo} {hi} h) r s = let z : hi - suc lo ≡ 0 = omega arith in rw z (ends-only all-none)
-  marks-keeps (marks-ends {lo} {hi} {m} {v} {k} h x g) r s =
+  marks-keeps (marks-ends {lo} {hi} {m} {v} {k} x g) r s =
       let n = length-each f (suc lo) (hi - suc lo) in
       let count : hi - lo - 1 ≡ length (inner f lo hi) = omega (arith, n) in
       rw (kept-by-none k (suc lo) (inner f lo hi) (λ i p q. s i p (omega (arith, n))), count) (ends-only {i = f lo} {j = f hi} (inner-all f lo hi (λ i p q. omega (arith, x .most i p q))))
-  marks-keeps (marks-split {lo} {hi} {m} {v} {c} {d} {k} {k1} {k2} h x g one two) r s =
+  marks-keeps (marks-split {lo} {hi} {m} {v} {c} {d} {k} {k1} {k2} x g one two) r s =
       let lm = x .low in
       let mh = x .high in
       let is = x .is in
