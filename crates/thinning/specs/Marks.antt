@@ -11,7 +11,7 @@ unfoldable pub kept-by : {A : Type 0} (marks : List Bool) (k : ℕ) → List A �
 kept-by marks k [] = []
 kept-by marks k (i ∷ l) = cond (getD marks k false) (i ∷ kept-by marks (suc k) l) (kept-by marks (suc k) l)
 
--- Marks for n fixes before the first span is split: the two ends are marked, and no other position.
+-- Marks for n fixes before the first span is examined: the two ends are marked, and no position between them.
 pub record Ready (n : ℕ) (marks : List Bool) : Type 0 where
   pub room : n ≤ length marks
   pub first : getD marks 0 false ≡ true
@@ -31,7 +31,7 @@ module _ {A : Type 0} (far : (i m j : A) → ℕ) (bound : (e : ℕ) (i j : A) �
   pub data Marks : (lo hi : ℕ) (before after : List Bool) (c : ℕ) → Type 0 where
     -- no inner fix
     marks-none : {lo hi : ℕ} {k : List Bool} → hi - lo < 2 → Marks lo hi k k 0
-    -- all within e
+    -- the furthest is within e, so all are
     marks-ends : {lo hi m v : ℕ} {k : List Bool} → Furthest (λ x. far (f lo) (f x) (f hi)) lo hi m v → v ≤ bound e (f lo) (f hi) → Marks lo hi k k (hi - lo - 1)
     -- split at m, which is marked, and then the two pieces
     marks-split : {lo hi m v c d : ℕ} {k k1 k2 : List Bool} → Furthest (λ x. far (f lo) (f x) (f hi)) lo hi m v → bound e (f lo) (f hi) < v

@@ -13,7 +13,7 @@ use Rattle.thinning.specs.Laws.Furthest.{Tops, tops-most}
 use Rattle.thinning.specs.Laws.Keeps.{Keeps, ends-only, pieces-of, span-keeps, keeps-span}
 use Rattle.thinning.specs.Laws.Kept.{Ends, no-end, one-end, two-ends, ends, keeps-all, thin-ends, thin-sublist}
 
--- what is within e is within more
+-- `grows`: what is within e is within more
 module _ {A : Type 0} (far : (i m j : A) → ℕ) (bound : (e : ℕ) (i j : A) → ℕ) (grows : (e f : ℕ) (i j : A) → e ≤ f → bound e i j ≤ bound f i j) where
   bound-max : (e f : ℕ) (i j : A) → bound (max e f) i j ≡ max (bound e i j) (bound f i j)
   bound-max e f i j = go (test e f)

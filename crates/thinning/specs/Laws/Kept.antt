@@ -30,15 +30,15 @@ module _ {A : Type 0} where
   but-last-snoc m [] j = refl
   but-last-snoc m (n ∷ l) j = ap (λ (r : List A). m ∷ r) (but-last-snoc n l j)
 
-  pub sublist-length : {l k : List A} → Sublistᴰ k l → length k ≤ length l
-  sublist-length Sublistᴰ·slnil = omega arith
-  sublist-length (Sublistᴰ·cons s) = omega (arith, sublist-length s)
-  sublist-length (Sublistᴰ·cons-cons h s) = omega (arith, sublist-length s)
-
   last-snoc : (m : A) (l : List A) (j : A) → last m (l ++ j ∷ []) ≡ j
   unfolding last
   last-snoc m [] j = refl
   last-snoc m (n ∷ l) j = last-snoc n l j
+
+  pub sublist-length : {l k : List A} → Sublistᴰ k l → length k ≤ length l
+  sublist-length Sublistᴰ·slnil = omega arith
+  sublist-length (Sublistᴰ·cons s) = omega (arith, sublist-length s)
+  sublist-length (Sublistᴰ·cons-cons h s) = omega (arith, sublist-length s)
 
 module _ {A : Type 0} (far : (i m j : A) → ℕ) (bound : (e : ℕ) (i j : A) → ℕ) where
   -- what holds of all inner fixes holds of those that stay

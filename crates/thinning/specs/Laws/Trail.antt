@@ -68,7 +68,7 @@ pub kept-all : {P : Fix → Type 0} (e : ℕ) (l : List Fix) → All P l → All
 unfolding thinning
 kept-all e l h = thin-all deviation allowance e l h
 
--- of a greater tolerance, only those of a smaller
+-- a greater tolerance keeps only fixes that a smaller one keeps
 pub greater-keeps-fewer : (e f : ℕ) (l : List Fix) → e ≤ f → Sublistᴰ (thinned f l) (thinned e l)
 unfolding thinning
 greater-keeps-fewer e f l h = thin-greater deviation allowance allowance-grows e f l h
