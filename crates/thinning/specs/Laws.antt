@@ -1,0 +1,10 @@
+-- What is proved of the definitions, each law once.
+pub mod Furthest
+pub mod Keeps
+pub mod Kept
+pub mod Again
+pub mod Trail
+pub mod Near
+pub mod Search
+pub mod KeptBy
+pub mod Marks

@@ -1,0 +1,139 @@
+-- What marks keep of a trail: part by part, and the marks with which a thinning begins.
+use mathlib.Core.Path.{_≡_, refl, _∙_, ap}
+use mathlib.Core.Bool.{Bool, true, false, cond}
+use mathlib.Core.Logic.{⊎-elim}
+use mathlib.Core.List.{List, [], _∷_, _++_, append-nil}
+use Prim.Native.Nat.{ℕ, zero, suc, _+_, _-_, _<_, _≤_}
+use native.Mathlib.Nat.{le-refl, eq-or-lt-of-le}
+use native.Mathlib.Omega.{arith}
+use lib.ListN.{length, getD, set, length-set, replicate, length-replicate, getD-replicate, List·getD-eq-default}
+use lib.Seq.{getD-set-same, getD-set-other}
+use Rattle.distance.specs.Integers.Tests.{Test, holds, fails, test}
+use Rattle.record.specs.Format.{each}
+use Rattle.record.specs.Laws.Each.{length-each, each-more}
+use Rattle.thinning.specs.Marks.{kept-by, Ready}
+use Rattle.distance.specs.Laws.All.{All, all-none, all-more}
+
+-- ---- lists by position
+module _ {A : Type 0} (f : ℕ → A) where
+  each-append : (k n m : ℕ) → each f k (n + m) ≡ each f k n ++ each f (k + n) m
+  unfolding each
+  each-append k zero m = let p : 0 + m ≡ m = omega arith in let q : k + 0 ≡ k = omega arith in rw (p, q) refl
+  each-append k (suc n) m =
+      let p : suc n + m ≡ suc (n + m) = omega arith in
+      let q : k + suc n ≡ suc k + n = omega arith in
+      rw (p, q) (ap (λ (l : List A). f k ∷ l) (each-append (suc k) n m))
+
+  each-all : {P : A → Type 0} (k n : ℕ) → ((i : ℕ) → k ≤ i → i < k + n → P (f i)) → All P (each f k n)
+  unfolding each
+  each-all k zero h = all-none
+  each-all k (suc n) h = all-more (h k (le-refl k) (omega arith)) (each-all (suc k) n (λ i p q. h i (omega arith) (omega arith)))
+
+  -- the inner fixes of the span from position lo to position hi
+  abbrev pub inner : (lo hi : ℕ) → List A
+  inner lo hi = each f (suc lo) (hi - suc lo)
+
+  pub inner-split : (lo m hi : ℕ) → lo < m → m < hi → inner lo hi ≡ inner lo m ++ f m ∷ inner m hi
+  unfolding each
+  inner-split lo m hi h g =
+      let p : hi - suc lo ≡ m - suc lo + suc (hi - suc m) = omega arith in
+      let q : suc lo + (m - suc lo) ≡ m = omega arith in
+      rw p (each-append (suc lo) (m - suc lo) (suc (hi - suc m)) ∙ rw q refl)
+
+  pub inner-all : {P : A → Type 0} (lo hi : ℕ) → ((i : ℕ) → lo < i → i < hi → P (f i)) → All P (inner lo hi)
+  inner-all lo hi h = each-all (suc lo) (hi - suc lo) (λ i p q. h i p (omega arith))
+
+-- ---- what is marked
+module _ {A : Type 0} (marks : List Bool) where
+  pub kept-by-append : (k : ℕ) (p q : List A) → kept-by marks k (p ++ q) ≡ kept-by marks k p ++ kept-by marks (k + length p) q
+  unfolding kept-by
+  kept-by-append k [] q = let e : k + 0 ≡ k = omega arith in rw e refl
+  kept-by-append k (i ∷ p) q = let e : k + suc (length p) ≡ suc k + length p = omega arith in rw e (go (kept-by marks (suc k) p) (kept-by marks (suc k + length p) q) (getD marks k false) (kept-by-append (suc k) p q))
+    where
+      go : {x : List A} (y z : List A) (b : Bool) → x ≡ y ++ z → cond b (i ∷ x) x ≡ cond b (i ∷ y) y ++ z
+      go y z true h = ap (λ (l : List A). i ∷ l) h
+      go y z false h = h
+
+  pub kept-by-length : (k : ℕ) (l : List A) → length (kept-by marks k l) ≤ length l
+  unfolding kept-by
+  kept-by-length k [] = omega arith
+  kept-by-length k (i ∷ l) = go (getD marks k false) (kept-by-length (suc k) l)
+    where
+      go : (b : Bool) → length (kept-by marks (suc k) l) ≤ length l → length (cond b (i ∷ kept-by marks (suc k) l) (kept-by marks (suc k) l)) ≤ suc (length l)
+      go true h = omega arith
+      go false h = omega arith
+
+  -- nothing is marked there
+  pub kept-by-none : (k : ℕ) (l : List A) → ((i : ℕ) → k ≤ i → i < k + length l → getD marks i false ≡ false) → kept-by marks k l ≡ []
+  unfolding kept-by
+  kept-by-none k [] h = refl
+  kept-by-none k (i ∷ l) h = rw (h k (le-refl k) (omega arith)) (kept-by-none (suc k) l (λ i p q. h i (omega arith) (omega arith)))
+
+  -- marks that agree there
+  pub kept-by-same : (others : List Bool) (k : ℕ) (l : List A) → ((i : ℕ) → k ≤ i → i < k + length l → getD marks i false ≡ getD others i false) → kept-by marks k l ≡ kept-by others k l
+  unfolding kept-by
+  kept-by-same others k [] h = refl
+  kept-by-same others k (i ∷ l) h =
+      let rest = kept-by-same others (suc k) l (λ i p q. h i (omega arith) (omega arith)) in
+      rw (h k (le-refl k) (omega arith), rest) refl
+
+-- one position more, which is marked or isn't
+module _ {A : Type 0} (marks : List Bool) (f : ℕ → A) (n : ℕ) where
+  one-more : kept-by marks 0 (each f 0 (n + 1)) ≡ kept-by marks 0 (each f 0 n) ++ kept-by marks n (f n ∷ [])
+  one-more =
+      let p : n + 1 ≡ suc n = omega arith in
+      let q : 0 + n ≡ n = omega arith in
+      rw (p, each-more f 0 n, kept-by-append marks 0 (each f 0 n) (f (0 + n) ∷ []), length-each f 0 n, q) refl
+
+  pub kept-by-more : getD marks n false ≡ true → kept-by marks 0 (each f 0 (n + 1)) ≡ kept-by marks 0 (each f 0 n) ++ f n ∷ []
+  unfolding kept-by
+  kept-by-more h = one-more ∙ rw h refl
+
+  pub kept-by-skip : getD marks n false ≡ false → kept-by marks 0 (each f 0 (n + 1)) ≡ kept-by marks 0 (each f 0 n)
+  unfolding kept-by
+  kept-by-skip h = one-more ∙ rw h (append-nil _)
+
+-- a span in which m is marked
+pub kept-inner : {A : Type 0} (f : ℕ → A) (marks : List Bool) (lo m hi : ℕ) → lo < m → m < hi → getD marks m false ≡ true
+    → kept-by marks (suc lo) (inner f lo hi) ≡ kept-by marks (suc lo) (inner f lo m) ++ f m ∷ kept-by marks (suc m) (inner f m hi)
+unfolding kept-by
+kept-inner f marks lo m hi h g t =
+    let e : suc lo + length (inner f lo m) ≡ m = omega (arith, length-each f (suc lo) (m - suc lo)) in
+    rw (inner-split f lo m hi h g, kept-by-append marks (suc lo) (inner f lo m) (f m ∷ inner f m hi), e, t) refl
+
+-- a whole trail: its first fix, its inner fixes and its last, which are marked
+pub each-ends : {A : Type 0} (f : ℕ → A) (n : ℕ) → each f 0 (suc (suc n)) ≡ f 0 ∷ (inner f 0 (suc n) ++ f (suc n) ∷ [])
+unfolding each
+each-ends {A} f n =
+    let p : suc n - 1 ≡ n = omega arith in
+    let q : 1 + n ≡ suc n = omega arith in
+    rw p (ap (λ (l : List A). f 0 ∷ l) (each-more f 1 n ∙ rw q refl))
+
+pub kept-ends : {A : Type 0} (f : ℕ → A) (marks : List Bool) (n : ℕ) → getD marks 0 false ≡ true → getD marks (suc n) false ≡ true
+    → kept-by marks 0 (f 0 ∷ (inner f 0 (suc n) ++ f (suc n) ∷ [])) ≡ f 0 ∷ (kept-by marks 1 (inner f 0 (suc n)) ++ f (suc n) ∷ [])
+unfolding kept-by
+kept-ends f marks n h g =
+    let e : 1 + length (inner f 0 (suc n)) ≡ suc n = omega (arith, length-each f 1 (suc n - 1)) in
+    rw (h, kept-by-append marks 1 (inner f 0 (suc n)) (f (suc n) ∷ []), e, g) refl
+
+-- ---- cleared marks, and the two ends marked
+cleared : (N k : ℕ) → getD (replicate N false) k false ≡ false
+cleared N k = go (test N k)
+  where
+    go : {b : Bool} → Test N k b → getD (replicate N false) k false ≡ false
+    go (holds h) = List·getD-eq-default (replicate N false) false (rw (length-replicate N false) h)
+    go (fails h) = getD-replicate N k false false h
+
+pub ready : (N n : ℕ) → 1 ≤ n → n ≤ N → Ready n (set (set (replicate N false) 0 true) (n - 1) true)
+ready N n h g =
+    let none = replicate N false in
+    let size : length none ≡ N = length-replicate N false in
+    let both : length (set none 0 true) ≡ N = length-set none 0 true ∙ size in
+    record {
+      room = rw (length-set (set none 0 true) (n - 1) true, both) g;
+      first = ⊎-elim (λ (q : 0 ≡ n - 1). rw (← q) (getD-set-same (set none 0 true) 0 true false (rw both (omega arith))))
+          (λ (q : 0 < n - 1). getD-set-other (set none 0 true) (n - 1) 0 true false (omega arith) ∙ getD-set-same none 0 true false (rw size (omega arith)))
+          (eq-or-lt-of-le {n = 0} {m = n - 1} (omega arith));
+      last = getD-set-same (set none 0 true) (n - 1) true false (rw both (omega arith));
+      clear = λ k p q. getD-set-other (set none 0 true) (n - 1) k true false (omega arith) ∙ getD-set-other none 0 k true false (omega arith) ∙ cleared N k;
+    }

@@ -1,0 +1,8 @@
+-- What a reader must believe:
+pub mod Thinning
+-- the worked trails, computed on it:
+pub mod Worked
+-- what the code promises on the way to it:
+pub mod Marks
+-- and what engineers prove of it:
+pub mod Laws

@@ -1,0 +1,38 @@
+-- KEEP MARKS, as the code thins by them: "The call works with 4,096 keep marks, cleared before each thinning."
+-- The fixes stand at positions from 0, f k at position k. That such marks say what thinning keeps is shown in Laws/Marks.antt.
+use mathlib.Core.Path.{_≡_}
+use mathlib.Core.Bool.{Bool, true, false, cond}
+use mathlib.Core.List.{List, [], _∷_}
+use Prim.Native.Nat.{ℕ, suc, _+_, _-_, _<_, _≤_}
+use lib.ListN.{length, getD, set}
+
+-- Of the fixes l, whose first stands at position k, those that are marked.
+unfoldable pub kept-by : {A : Type 0} (marks : List Bool) (k : ℕ) → List A → List A
+kept-by marks k [] = []
+kept-by marks k (i ∷ l) = cond (getD marks k false) (i ∷ kept-by marks (suc k) l) (kept-by marks (suc k) l)
+
+-- Marks for n fixes before the first span is examined: the two ends are marked, and no position between them.
+pub record Ready (n : ℕ) (marks : List Bool) : Type 0 where
+  pub room : n ≤ length marks
+  pub first : getD marks 0 false ≡ true
+  pub last : getD marks (n - 1) false ≡ true
+  pub clear : (k : ℕ) → 0 < k → k < n - 1 → getD marks k false ≡ false
+
+-- m is the furthest position strictly between lo and hi by the measure g, "the earliest of equals", and v is its measure.
+pub record Furthest (g : ℕ → ℕ) (lo hi m v : ℕ) : Type 0 where
+  pub low : lo < m
+  pub high : m < hi
+  pub is : v ≡ g m
+  pub most : (k : ℕ) → lo < k → k < hi → g k ≤ v
+  pub first : (k : ℕ) → lo < k → k < m → g k < v
+
+-- Thinning of the span from position lo to position hi makes one list of marks of another, and counts c: a case for each way out of the function.
+module _ {A : Type 0} (far : (i m j : A) → ℕ) (bound : (e : ℕ) (i j : A) → ℕ) (f : ℕ → A) (e : ℕ) where
+  pub data Marks : (lo hi : ℕ) (before after : List Bool) (c : ℕ) → Type 0 where
+    -- no inner fix
+    marks-none : {lo hi : ℕ} {k : List Bool} → hi - lo < 2 → Marks lo hi k k 0
+    -- the furthest is within e, so all are
+    marks-ends : {lo hi m v : ℕ} {k : List Bool} → Furthest (λ x. far (f lo) (f x) (f hi)) lo hi m v → v ≤ bound e (f lo) (f hi) → Marks lo hi k k (hi - lo - 1)
+    -- split at m, which is marked, and then the two pieces
+    marks-split : {lo hi m v c d : ℕ} {k k1 k2 : List Bool} → Furthest (λ x. far (f lo) (f x) (f hi)) lo hi m v → bound e (f lo) (f hi) < v
+        → Marks lo m (set k m true) k1 c → Marks m hi k1 k2 d → Marks lo hi k k2 (hi - lo - 1 + c + d)

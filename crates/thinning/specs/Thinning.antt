@@ -1,0 +1,85 @@
+-- THINNING. Document 01: "Douglas-Peucker as in source document 000, where the split is at a furthest fix; 001 allows any fix that is too far,
+-- and 000 decides."
+-- It asks of fixes only that they can be measured, so it is written for any such type A; `thinning`, at the end, is at fixes.
+--   far i m j     the measure of the inner fix m of the span from i to j: Nx² + Ny²
+--   bound e i j   m is within e if its measure is at most this: e²·D²
+use mathlib.Core.Bool.{Bool, true, false, cond, _&&_}
+use mathlib.Core.List.{List, [], _∷_, _++_}
+use Prim.Native.Nat.{ℕ, zero, suc, _+_}
+use lib.Dec.{leb}
+use lib.ListN.{length}
+use Rattle.distance.specs.Fix.{Fix}
+use Rattle.distance.specs.Distance.{deviation, allowance}
+
+-- Where a span is split: nowhere, if it has no inner fix; else at one of them, with those before it and those after it.
+pub data Split (A : Type 0) : Type 0 where
+  nowhere : Split A
+  split-at : List A → A → List A → Split A
+
+module _ {A : Type 0} where
+  -- m stands before `others`, which are split at their furthest by the measure g: m itself is the furthest unless that one is further.
+  unfoldable pub sooner : (g : A → ℕ) (m : A) (others : List A) → Split A → Split A
+  sooner g m others nowhere = split-at [] m others
+  sooner g m others (split-at before n after) = cond (leb (g n) (g m)) (split-at [] m others) (split-at (m ∷ before) n after)
+
+  -- "the furthest, the earliest of equals"
+  unfoldable pub furthest : (g : A → ℕ) → List A → Split A
+  furthest g [] = nowhere
+  furthest g (m ∷ others) = sooner g m others (furthest g others)
+
+  unfoldable pub every : (A → Bool) → List A → Bool
+  every t [] = true
+  every t (m ∷ l) = t m && every t l
+
+  -- of the fixes m ∷ l: all but the last ..
+  unfoldable pub but-last : A → List A → List A
+  but-last m [] = []
+  but-last m (n ∷ l) = m ∷ but-last n l
+
+  -- .. and the last
+  unfoldable pub last : A → List A → A
+  last m [] = m
+  last m (n ∷ l) = last n l
+
+-- The fixes that stay, and the count: "one for each inner fix measured in each span examined".
+pub record Thinned (A : Type 0) : Type 0 where
+  pub kept : List A
+  pub count : ℕ
+
+module _ {A : Type 0} (far : (i m j : A) → ℕ) (bound : (e : ℕ) (i j : A) → ℕ) where
+  -- The span from i to j: which of its inner fixes stay, and the count. "every inner fix is measured."
+  -- `depth` is how deep splits may nest. The number of inner fixes is enough, and beyond that it decides nothing: `enough` of Laws/Keeps.antt.
+  unfoldable pub thin-span : (depth e : ℕ) (i : A) (inner : List A) (j : A) → Thinned A
+  thin-span zero e i inner j = record { kept = []; count = 0 }
+  thin-span (suc depth) e i inner j =
+      elim (every (λ m. leb (far i m j) (bound e i j)) inner) [
+        -- "If all are within e, only the ends stay"; so too "A span with no inner fix"
+        | true ↦ record { kept = []; count = length inner }
+        -- "if not, the span is split at the furthest, the earliest of equals, and each of the two pieces is treated the same."
+        | false ↦
+            elim (furthest (λ m. far i m j) inner) [
+              | nowhere ↦ record { kept = []; count = 0 }
+              | split-at before m after ↦
+                  let one = thin-span depth e i before m in
+                  let two = thin-span depth e m after j in
+                  record { kept = one .kept ++ m ∷ two .kept; count = length inner + (one .count + two .count) }
+            ]
+      ]
+
+  -- The whole trail is one span: its ends stay, and what stays between them. "A record of one fix keeps it."
+  unfoldable pub thin : (e : ℕ) → List A → Thinned A
+  thin e [] = record { kept = []; count = 0 }
+  thin e (i ∷ []) = record { kept = i ∷ []; count = 0 }
+  thin e (i ∷ m ∷ l) =
+      let inner = but-last m l in
+      let j = last m l in
+      let between = thin-span (length inner) e i inner j in
+      record { kept = i ∷ (between .kept ++ j ∷ []); count = between .count }
+
+-- Thinning of a trail at the tolerance e.
+unfoldable pub thinning : (e : ℕ) → List Fix → Thinned Fix
+thinning e l = thin deviation allowance e l
+
+-- The fixes that it keeps.
+abbrev pub thinned : (e : ℕ) → List Fix → List Fix
+thinned e l = (thinning e l) .kept
