@@ -177,7 +177,7 @@ fn head_says(b: &[u8]) -> Checked
 }
 
 // How many fixes the record's head says there are.
-fn count_at(b: &[u8]) -> usize
+pub fn count_at(b: &[u8]) -> usize
     requires { ⌜ 10 ≤ length (now b) ⌝ }
     ensures { λ r. ⌜ (r ≡ count-field (now (b .entry))) × (r < 65536) ⌝ }
 {
@@ -185,7 +185,7 @@ fn count_at(b: &[u8]) -> usize
 }
 
 // The mark that the record's head says.
-fn mark_at(b: &[u8]) -> u32
+pub fn mark_at(b: &[u8]) -> u32
     requires { ⌜ 10 ≤ length (now b) ⌝ }
     ensures { λ r. ⌜ (r ≡ mark-field (now (b .entry))) × (r < 65536) ⌝ }
 {
@@ -288,7 +288,7 @@ fn coordinate_number(c: Centimetres) -> u32
 }
 
 // A fix at a place of the output.
-fn put_fix(out: &mut [u8], at: usize, f: Fix)
+pub fn put_fix(out: &mut [u8], at: usize, f: Fix)
     requires { ⌜ at + 8 ≤ length (now out) ⌝ }
     ensures { λ _. ⌜ now (out .exit) ≡ sets (now (out .entry)) at (fix-bytes trail (fixOf f)) ⌝ }
 {
@@ -299,7 +299,7 @@ fn put_fix(out: &mut [u8], at: usize, f: Fix)
 }
 
 // The head of a record of n fixes.
-fn put_head(out: &mut [u8], n: u32, mark: u32)
+pub fn put_head(out: &mut [u8], n: u32, mark: u32)
     requires { ⌜ (n ≤ 4096) × (10 ≤ length (now out)) ⌝ }
     ensures { λ _. ⌜ now (out .exit) ≡ sets (now (out .entry)) 0 (header-bytes trail mark n) ⌝ }
 {

@@ -8,3 +8,4 @@ pub mod Near
 pub mod Search
 pub mod KeptBy
 pub mod Marks
+pub mod Spans

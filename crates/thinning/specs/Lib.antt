@@ -4,5 +4,6 @@ pub mod Thinning
 pub mod Worked
 -- what the code promises on the way to it:
 pub mod Marks
+pub mod Spans
 -- and what engineers prove of it:
 pub mod Laws
