@@ -9,3 +9,4 @@ pub mod Search
 pub mod KeptBy
 pub mod Marks
 pub mod Spans
+pub mod Pack

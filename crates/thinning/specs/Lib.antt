@@ -1,5 +1,6 @@
 -- What a reader must believe:
 pub mod Thinning
+pub mod Aging
 -- the worked trails, computed on it:
 pub mod Worked
 -- what the code promises on the way to it:

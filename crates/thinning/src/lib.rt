@@ -7,6 +7,8 @@ ghost use Rattle.distance.specs.Distance.{deviation, allowance};
 ghost use Rattle.record.specs.Format.{trail, fix-at};
 ghost use Rattle.thinning.specs.Marks.{Furthest, Marks};
 ghost use Rattle.thinning.specs.Spans.{Spans};
+ghost use Rattle.thinning.specs.Aging.{new-mark};
+ghost use Rattle.thinning.specs.Laws.Pack.{Packed};
 
 // The furthest inner fix of a span: its position, and its Nx² + Ny².
 struct Found {
@@ -64,4 +66,34 @@ fn split(b: &[u8], keep: &mut [bool], lo: usize, hi: usize, e: Tolerance) -> u32
     let p = split(b, keep, lo, m, e);
     let q = split(b, keep, m, hi, e);
     n + p + q
+}
+
+// Closes up the marked fixes of the first n, and says how many they are. Each is read before anything is stored over it.
+fn pack(b: &mut [u8], keep: &[bool], n: usize) -> usize
+    requires { ⌜ (n ≤ 4096) × (n ≤ length (now keep)) × (10 + 8 * n ≤ length (now b)) ⌝ }
+    ensures { λ r. ⌜ Packed (now (b .entry)) (now (keep .entry)) n (now (b .exit)) r ⌝ }
+{
+    let mut w = 0;
+    let mut i = 0;
+    while i < n {
+        if keep[i] {
+            let f = record::fix_at(b, i);
+            record::put_fix(b, 10 + 8 * w, f);
+            w += 1;
+        }
+        i += 1;
+    }
+    w
+}
+
+// The mark of a record after a thinning at e.
+fn new_mark(mark: u32, e: Tolerance) -> u32
+    requires { ⌜ mark < 65536 ⌝ }
+    ensures { λ r. ⌜ (r ≡ new-mark mark (e .0)) × (r < 65536) ⌝ }
+{
+    let t = e.0 as u32;
+    if mark == 65535 {
+        return t;
+    }
+    if mark < t { t } else { mark }
 }

@@ -1,0 +1,102 @@
+use mathlib.Core.Path.{_≡_, refl, sym, _∙_, ap}
+use mathlib.Core.Logic.{⊎-elim}
+use Prim.Native.Nat.{_+_, _*_, _-_, _≤_}
+use native.Mathlib.Omega.{arith}
+use lib.ListN.{length}
+use lib.Seq.{length-sets}
+use borrow.Author.Needs.{needs}
+use Rattle.distance.specs.Fix.{fixOf}
+use Rattle.record.specs.Format.{trail, fix-bytes}
+use Rattle.thinning.specs.Laws.Pack.{Packed, packed-none, packed-skip, packed-more}
+use Rattle.thinning.proofs.pack.Statement.{statement}
+use Rattle.thinning.proofs.pack.Tie as tie
+use Rattle.thinning.proofs.pack.Reads as reads
+use Rattle.thinning.proofs.pack.Lts as lts
+use Rattle.record.proofs.fix_at.Reads as fix-at-reads
+use Rattle.record.proofs.put_fix.Reads as put-fix-reads
+
+abbrev Inv-loop : tie.InvT-loop
+Inv-loop b₀ keep n w₀ i₀ b w i = (i ≤ n) × (length b ≡ length b₀) × Packed b₀ keep i b w
+
+abbrev μ-loop : tie.MeasureT-loop
+μ-loop b₀ keep n w₀ i₀ b w i = n - i
+
+-- src/lib.rt:78:5
+loop-holds : tie.Need-loop-holds Inv-loop μ-loop
+loop-holds c = (omega arith, refl, packed-none _ _)
+
+-- src/lib.rt:79:12
+shared-slice-read-if1 : tie.Need-shared-slice-read-if1 Inv-loop μ-loop
+shared-slice-read-if1 c = search needs
+
+-- src/lib.rt:80:17
+fix-at-requires : tie.Need-fix-at-requires Inv-loop μ-loop
+fix-at-requires c κs = search needs
+
+-- src/lib.rt:81:37
+mul-put-fix : tie.Need-mul-put-fix Inv-loop μ-loop
+mul-put-fix c = search needs
+
+-- src/lib.rt:81:32
+add-put-fix : tie.Need-add-put-fix Inv-loop μ-loop
+add-put-fix c = search needs
+
+-- src/lib.rt:81:13
+put-fix-requires : tie.Need-put-fix-requires Inv-loop μ-loop
+put-fix-requires c κs = search needs
+
+-- src/lib.rt:82:13
+add-w : tie.Need-add-w Inv-loop μ-loop
+add-w c = search needs
+
+-- src/lib.rt:84:9
+add-i : tie.Need-add-i Inv-loop μ-loop
+add-i c = search needs
+
+-- src/lib.rt:78:5
+loop-less : tie.Need-loop-less Inv-loop μ-loop
+loop-less c = search needs
+
+-- src/lib.rt:78:5
+loop-again : tie.Need-loop-again Inv-loop μ-loop
+loop-again c =
+    let i = c .before .before .before .loop .inv in
+    ⊎-elim
+    (λ w.
+        let e = w .7 ∙ w .4 .ensures in
+        (
+          omega arith,
+          ap length e ∙ length-sets (c .before .before .before .loop .b) (10 + 8 * c .before .before .before .loop .w) (fix-bytes trail (fixOf (w .2 .result))) ∙ i .1,
+          rw (w .8) (packed-more (i .2) (fixOf (w .2 .result)) (w .0 .taken) (w .2 .ensures) e),
+        ))
+    (λ w. (omega arith, ap length (w .1) ∙ i .1, rw (w .1, w .2) (packed-skip (i .2) (w .0 .left))))
+    (c .if1 .came)
+
+-- src/lib.rt:72:1
+same-length : tie.Need-same-length Inv-loop μ-loop
+same-length c = search needs
+
+-- src/lib.rt:72:1
+returns : tie.Need-returns Inv-loop μ-loop
+returns c =
+    let e : c .before .loop .i ≡ c .before .before .before .before .args .n = omega arith in
+    rw e at (c .before .loop .inv .2)
+
+pub pack-spec : {M : Type 1} → statement M
+pack-spec =
+    tie.close
+    (tie.spec
+    Inv-loop
+    μ-loop
+    loop-holds
+    shared-slice-read-if1
+    fix-at-requires
+    mul-put-fix
+    add-put-fix
+    put-fix-requires
+    add-w
+    add-i
+    loop-less
+    loop-again
+    same-length
+    returns)

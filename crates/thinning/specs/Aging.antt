@@ -1,0 +1,98 @@
+-- AGING. Document 01: "thin again what was thinned. A shift's first thinning is this same call, and there is no other."
+use mathlib.Core.Bool.{cond}
+use mathlib.Core.List.{List, [], _∷_, _++_}
+use mathlib.Core.Option.{Option, some, none}
+use Prim.Native.Nat.{ℕ, max}
+use lib.Dec.{leb, eqb}
+use lib.ListN.{length, drop}
+use lib.IntN.{pos}
+use Rattle.record.specs.Format.{trail, never, mark-field, record-length, fixes, record-bytes}
+use Rattle.record.specs.Checks.{Given, nothing, asked-of, refusal, aging, aging-by-days}
+use Rattle.record.specs.Answers.{Answer, answer, unless}
+use Rattle.thinning.specs.Thinning.{thinning, thinned}
+
+-- "the mark becomes e if it was never, else the greater of the two."
+unfoldable pub new-mark : (mark e : ℕ) → ℕ
+new-mark mark e = cond (eqb mark never) e (max mark e)
+
+-- "The record's fixes are thinned at e; kept fixes close up at its start; length and count follow [..]. Bytes from the new length on are as before."
+unfoldable pub thinned-record : List ℕ → (e : ℕ) → List ℕ
+thinned-record b e =
+    let kept = thinned e (fixes trail b) in
+    record-bytes trail (new-mark (mark-field b) e) kept ++ drop (record-length trail (length kept)) b
+
+-- ---- by tolerance: "Aging makes checks 1 to 10"
+abbrev pub with-tolerance : ℕ → Given
+with-tolerance e = record {
+  tolerance = e;
+  second = 0;
+  thousandths = 0;
+  start = 0;
+  end = 0;
+  box = record { x-low = pos 0; x-high = pos 0; y-low = pos 0; y-high = pos 0 };
+  output = 0;
+}
+
+abbrev pub age-refusal : List ℕ → (e : ℕ) → Option ℕ
+age-refusal b e = refusal trail aging (asked-of trail b (with-tolerance e))
+
+-- "The answer carries a count"; and the buffer afterwards.
+abbrev pub age-answer : List ℕ → (e : ℕ) → Answer ℕ
+age-answer b e = answer (age-refusal b e) ((thinning e (fixes trail b)) .count)
+
+abbrev pub aged : List ℕ → (e : ℕ) → List ℕ
+aged b e = unless (age-refusal b e) b (thinned-record b e)
+
+-- ---- by days: "from day 2, 10; from day 7, 25; from day 30, 100; from day 90, 400."
+pub record Row : Type 0 where
+  pub day : ℕ
+  pub row-tolerance : ℕ
+
+abbrev pub day-table : List Row
+day-table =
+    record { day = 2; row-tolerance = 10 }
+    ∷ record { day = 7; row-tolerance = 25 }
+    ∷ record { day = 30; row-tolerance = 100 }
+    ∷ record { day = 90; row-tolerance = 400 }
+    ∷ []
+
+-- The tolerance of the last row whose day isn't above the asked one; `found` is what the rows before these gave.
+unfoldable pub last-row : Option ℕ → List Row → (days : ℕ) → Option ℕ
+last-row found [] days = found
+last-row found (r ∷ rows) days = last-row (cond (leb (r .day) days) (some (r .row-tolerance)) found) rows days
+
+-- "Days 0 and 1 apply no tolerance"
+abbrev pub days-give : ℕ → Option ℕ
+days-give days = last-row none day-table days
+
+-- "aging by days 1 to 9"
+abbrev pub days-refusal : List ℕ → Option ℕ
+days-refusal b = refusal trail aging-by-days (asked-of trail b nothing)
+
+-- "the record is unchanged, the count 0", or as aging at that tolerance does.
+abbrev pub count-at : Option ℕ → List ℕ → ℕ
+count-at none b = 0
+count-at (some e) b = (thinning e (fixes trail b)) .count
+
+abbrev pub record-at : Option ℕ → List ℕ → List ℕ
+record-at none b = b
+record-at (some e) b = thinned-record b e
+
+abbrev pub days-answer : List ℕ → (days : ℕ) → Answer ℕ
+days-answer b days = answer (days-refusal b) (count-at (days-give days) b)
+
+abbrev pub aged-by-days : List ℕ → (days : ℕ) → List ℕ
+aged-by-days b days = unless (days-refusal b) b (record-at (days-give days) b)
+
+-- ---- a call of either, with its arguments: what it leaves of a buffer, and what it answers
+pub data Call : Type 0 where
+  by-tolerance : (e : ℕ) → Call
+  by-days : (days : ℕ) → Call
+
+abbrev pub left-by : List ℕ → Call → List ℕ
+left-by b (by-tolerance e) = aged b e
+left-by b (by-days days) = aged-by-days b days
+
+abbrev pub answered : List ℕ → Call → Answer ℕ
+answered b (by-tolerance e) = age-answer b e
+answered b (by-days days) = days-answer b days
