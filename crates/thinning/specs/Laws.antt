@@ -10,3 +10,4 @@ pub mod KeptBy
 pub mod Marks
 pub mod Spans
 pub mod Pack
+pub mod Aging

@@ -5,11 +5,22 @@ use mathlib.Core.Bool.{Bool, true, false, cond}
 use mathlib.Core.List.{List, [], _∷_}
 use Prim.Native.Nat.{ℕ, suc, _+_, _-_, _<_, _≤_}
 use lib.ListN.{length, getD, set}
+use Rattle.distance.specs.Fix.{Fix}
+use Rattle.thinning.specs.Thinning.{Thinned}
 
 -- Of the fixes l, whose first stands at position k, those that are marked.
 unfoldable pub kept-by : {A : Type 0} (marks : List Bool) (k : ℕ) → List A → List A
 kept-by marks k [] = []
 kept-by marks k (i ∷ l) = cond (getD marks k false) (i ∷ kept-by marks (suc k) l) (kept-by marks (suc k) l)
+
+-- What marks and a count say of a trail's fixes l is what thinning says.
+pub record Says (t : Thinned Fix) (marks : List Bool) (l : List Fix) (c : ℕ) : Type 0 where
+  pub says-kept : t .kept ≡ kept-by marks 0 l
+  pub says-count : t .count ≡ c
+
+-- "cleared before each thinning"
+pub record Cleared (marks : List Bool) : Type 0 where
+  pub cleared : (k : ℕ) → getD marks k false ≡ false
 
 -- Marks for n fixes before the first span is examined: the two ends are marked, and no position between them.
 pub record Ready (n : ℕ) (marks : List Bool) : Type 0 where

@@ -4,10 +4,12 @@ ghost use mathlib.Core.Path.{_≡_};
 ghost use Prim.Native.Nat.{_+_, _*_, _-_, _<_, _≤_};
 ghost use lib.ListN.{length};
 ghost use Rattle.distance.specs.Distance.{deviation, allowance};
-ghost use Rattle.record.specs.Format.{trail, fix-at};
-ghost use Rattle.thinning.specs.Marks.{Furthest, Marks};
+ghost use Rattle.record.specs.Format.{trail, fixes, fix-at, each};
+ghost use Rattle.record.specs.Checks.{IsAccepted};
+ghost use Rattle.thinning.specs.Marks.{Furthest, Marks, Cleared, Says};
 ghost use Rattle.thinning.specs.Spans.{Spans};
-ghost use Rattle.thinning.specs.Aging.{new-mark};
+ghost use Rattle.thinning.specs.Aging.{new-mark, thinned-record};
+ghost use Rattle.thinning.specs.Thinning.{thinning};
 ghost use Rattle.thinning.specs.Laws.Pack.{Packed};
 
 // The furthest inner fix of a span: its position, and its Nx² + Ny².
@@ -96,4 +98,29 @@ fn new_mark(mark: u32, e: Tolerance) -> u32
         return t;
     }
     if mark < t { t } else { mark }
+}
+
+// Marks what thinning at e keeps of the first n fixes, in marks that were cleared, and counts.
+fn mark_kept(b: &[u8], keep: &mut [bool], n: usize, e: Tolerance) -> u32
+    requires { ⌜ (1 ≤ n) × (n ≤ 4096) × (n ≤ length (now keep)) × Cleared (now keep) × (10 + 8 * n ≤ length (now b)) × Spans (fix-at trail (now b)) n ⌝ }
+    ensures { λ r. ⌜ Says (thinning (e .0) (each (fix-at trail (now (b .entry))) 0 n)) (now (keep .exit)) (each (fix-at trail (now (b .entry))) 0 n) r ⌝ }
+{
+    let last = n - 1;
+    keep[0] = true;
+    keep[last] = true;
+    split(b, keep, 0, last, e)
+}
+
+// Thins an accepted record at e, in place, and counts. The keep marks are made anew for each thinning and lent on through the recursion.
+fn thin(b: &mut [u8], e: Tolerance) -> u32
+    requires { ⌜ IsAccepted trail (now b) ⌝ }
+    ensures { λ r. ⌜ (r ≡ (thinning (e .0) (fixes trail (now (b .entry)))) .count) × (now (b .exit) ≡ thinned-record (now (b .entry)) (e .0)) ⌝ }
+{
+    let n = record::count_at(b);
+    let mark = new_mark(record::mark_at(b), e);
+    let mut keep = [false; 4096];
+    let count = mark_kept(b, &mut keep, n, e);
+    let kept = pack(b, &keep, n);
+    record::put_head(b, kept as u32, mark);
+    count
 }

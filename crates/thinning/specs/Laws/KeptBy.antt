@@ -11,7 +11,7 @@ use lib.Seq.{getD-set-same, getD-set-other}
 use Rattle.distance.specs.Integers.Tests.{Test, holds, fails, test}
 use Rattle.record.specs.Format.{each}
 use Rattle.record.specs.Laws.Each.{length-each, each-more}
-use Rattle.thinning.specs.Marks.{kept-by, Ready}
+use Rattle.thinning.specs.Marks.{kept-by, Cleared, Ready}
 use Rattle.distance.specs.Laws.All.{All, all-none, all-more}
 
 -- ---- lists by position
@@ -117,23 +117,21 @@ kept-ends f marks n h g =
     rw (h, kept-by-append marks 1 (inner f 0 (suc n)) (f (suc n) ∷ []), e, g) refl
 
 -- ---- cleared marks, and the two ends marked
-cleared : (N k : ℕ) → getD (replicate N false) k false ≡ false
-cleared N k = go (test N k)
+pub cleared-anew : (N : ℕ) → Cleared (replicate N false)
+cleared-anew N = record { cleared = λ k. go k (test N k) }
   where
-    go : {b : Bool} → Test N k b → getD (replicate N false) k false ≡ false
-    go (holds h) = List·getD-eq-default (replicate N false) false (rw (length-replicate N false) h)
-    go (fails h) = getD-replicate N k false false h
+    go : (k : ℕ) {b : Bool} → Test N k b → getD (replicate N false) k false ≡ false
+    go k (holds h) = List·getD-eq-default (replicate N false) false (rw (length-replicate N false) h)
+    go k (fails h) = getD-replicate N k false false h
 
-pub ready : (N n : ℕ) → 1 ≤ n → n ≤ N → Ready n (set (set (replicate N false) 0 true) (n - 1) true)
-ready N n h g =
-    let none = replicate N false in
-    let size : length none ≡ N = length-replicate N false in
-    let both : length (set none 0 true) ≡ N = length-set none 0 true ∙ size in
+pub ready : (marks : List Bool) (n : ℕ) → Cleared marks → 1 ≤ n → n ≤ length marks → Ready n (set (set marks 0 true) (n - 1) true)
+ready marks n c h g =
+    let both : length (set marks 0 true) ≡ length marks = length-set marks 0 true in
     record {
-      room = rw (length-set (set none 0 true) (n - 1) true, both) g;
-      first = ⊎-elim (λ (q : 0 ≡ n - 1). rw (← q) (getD-set-same (set none 0 true) 0 true false (rw both (omega arith))))
-          (λ (q : 0 < n - 1). getD-set-other (set none 0 true) (n - 1) 0 true false (omega arith) ∙ getD-set-same none 0 true false (rw size (omega arith)))
+      room = rw (length-set (set marks 0 true) (n - 1) true, both) g;
+      first = ⊎-elim (λ (q : 0 ≡ n - 1). rw (← q) (getD-set-same (set marks 0 true) 0 true false (rw both (omega arith))))
+          (λ (q : 0 < n - 1). getD-set-other (set marks 0 true) (n - 1) 0 true false (omega arith) ∙ getD-set-same marks 0 true false (omega arith))
           (eq-or-lt-of-le {n = 0} {m = n - 1} (omega arith));
-      last = getD-set-same (set none 0 true) (n - 1) true false (rw both (omega arith));
-      clear = λ k p q. getD-set-other (set none 0 true) (n - 1) k true false (omega arith) ∙ getD-set-other none 0 k true false (omega arith) ∙ cleared N k;
+      last = getD-set-same (set marks 0 true) (n - 1) true false (rw both (omega arith));
+      clear = λ k p q. getD-set-other (set marks 0 true) (n - 1) k true false (omega arith) ∙ getD-set-other marks 0 k true false (omega arith) ∙ c .cleared k;
     }

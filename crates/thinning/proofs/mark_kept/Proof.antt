@@ -1,0 +1,49 @@
+use mathlib.Core.Path.{_∙_}
+use native.Mathlib.Omega.{arith}
+use lib.ListN.{length-set}
+use denote.Ref.{now}
+use Rattle.distance.specs.Distance.{deviation, allowance}
+use Rattle.record.specs.Format.{trail, fix-at}
+use Rattle.thinning.specs.Laws.Spans.{fewer}
+use Rattle.thinning.specs.Laws.Marks.{marks-length}
+use Rattle.thinning.specs.Laws.Aging.{marks-say}
+use borrow.Author.Needs.{needs}
+use Rattle.thinning.proofs.mark_kept.Statement.{statement}
+use Rattle.thinning.proofs.mark_kept.Tie as tie
+use Rattle.thinning.proofs.mark_kept.Reads as reads
+use Rattle.thinning.proofs.mark_kept.Lts as lts
+use Rattle.thinning.proofs.split.Reads as split-reads
+
+-- src/lib.rt:108:16
+sub-last : tie.Need-sub-last
+sub-last c = search needs
+
+-- src/lib.rt:109:5
+slice-write-keep : tie.Need-slice-write-keep
+slice-write-keep c = search needs
+
+-- src/lib.rt:110:5
+slice-write-keep-2 : tie.Need-slice-write-keep-2
+slice-write-keep-2 c = simp length-set (omega arith)
+
+-- src/lib.rt:111:5
+split-requires : tie.Need-split-requires
+split-requires c κs =
+    let p = c .before .before .before .pre in
+    (omega arith, omega arith, simp length-set (omega arith), omega arith, fewer _ (omega arith) (p .5))
+
+-- src/lib.rt:104:1
+same-length : tie.Need-same-length
+same-length c = marks-length deviation allowance _ _ (c .before .before .split .ensures) ∙ simp length-set
+
+-- src/lib.rt:104:1
+returns : tie.Need-returns
+returns c =
+    let s = c .before .before .before .before .before .before in
+    let p = s .pre in
+    marks-say (fix-at trail (now (s .args .b))) (s .args .e .0) (s .args .n) (now (s .args .keep)) (p .3) (p .0) (p .2) (c .before .before .split .ensures)
+
+pub mark-kept-spec : {M : Type 1} → statement M
+mark-kept-spec =
+    tie.close
+    (tie.spec sub-last slice-write-keep slice-write-keep-2 split-requires same-length returns)

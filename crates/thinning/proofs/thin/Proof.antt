@@ -1,0 +1,110 @@
+use mathlib.Core.Path.{_≡_, refl, _∙_}
+use mathlib.Core.Bool.{false}
+use Prim.Native.Nat.{_+_, _*_, _≤_}
+use native.Mathlib.Omega.{arith}
+use lib.ListN.{length, length-replicate}
+use denote.Ref.{now}
+use Rattle.record.specs.Format.{count-field}
+use Rattle.record.specs.Laws.Head.{Head}
+use Rattle.record.specs.Laws.Accepted.{accepted-good}
+use Rattle.thinning.specs.Laws.Spans.{accepted-spans}
+use Rattle.thinning.specs.Laws.KeptBy.{cleared-anew}
+use Rattle.thinning.specs.Laws.Aging.{record-is}
+use borrow.Author.Needs.{needs}
+use Rattle.thinning.proofs.thin.Statement.{statement}
+use Rattle.thinning.proofs.thin.Tie as tie
+use Rattle.thinning.proofs.thin.Reads as reads
+use Rattle.thinning.proofs.thin.Lts as lts
+use Rattle.record.proofs.count_at.Reads as count-at-reads
+use Rattle.record.proofs.mark_at.Reads as mark-at-reads
+use Rattle.record.proofs.put_head.Reads as put-head-reads
+use Rattle.thinning.proofs.mark_kept.Reads as mark-kept-reads
+use Rattle.thinning.proofs.new_mark.Reads as new-mark-reads
+use Rattle.thinning.proofs.pack.Reads as pack-reads
+
+-- what acceptance gives
+head : (s : tie.Start) → Head (now (s .args .b))
+head s = accepted-good (now (s .args .b)) (s .pre) .head
+
+-- n is the record's count
+count-is : (c : tie.After-count-at) → c .count-at .result ≡ count-field (now (c .before .before .before .args .b))
+count-is c = c .count-at .ensures .0
+
+few : (c : tie.After-count-at) → c .count-at .result ≤ 4096
+few c = omega (arith, count-is c, head (c .before .before .before) .few-fixes)
+
+whole : (c : tie.After-count-at) → 10 + 8 * c .count-at .result ≤ length (now (c .before .before .before .args .b))
+whole c = omega (arith, count-is c, head (c .before .before .before) .whole)
+
+-- src/lib.rt:119:9
+count-at-requires : tie.Need-count-at-requires
+count-at-requires c κs = head (c .before .before) .ten
+
+-- src/lib.rt:120:25
+mark-at-requires : tie.Need-mark-at-requires
+mark-at-requires c κs = head (c .before .before .before .before) .ten
+
+-- src/lib.rt:120:9
+new-mark-requires : tie.Need-new-mark-requires
+new-mark-requires c κs = search needs
+
+-- src/lib.rt:122:30
+slice-aggregate-mark-kept : tie.Need-slice-aggregate-mark-kept
+slice-aggregate-mark-kept c = search needs
+
+-- src/lib.rt:122:9
+mark-kept-requires : tie.Need-mark-kept-requires
+mark-kept-requires c κs =
+    let n = c .before .before .before .before .before in
+    let h = head (c .before .before .before .before .before .before .before .before) in
+    (
+      omega (arith, count-is n, h .some-fix),
+      few n,
+      rw (length-replicate 4096 false) (few n),
+      cleared-anew 4096,
+      whole n,
+      rw (count-is n) (accepted-spans (now (c .before .before .before .before .before .before .before .before .args .b)) (c .before .before .before .before .before .before .before .before .pre)),
+    )
+
+-- src/lib.rt:123:24
+slice-aggregate-pack : tie.Need-slice-aggregate-pack
+slice-aggregate-pack c = search needs
+
+-- src/lib.rt:123:9
+pack-requires : tie.Need-pack-requires
+pack-requires c κs = (few (c .before .before .before .before .before .before .before .before .before), rw (c .before .before .before .mark-kept .kept .1 .0 ∙ length-replicate 4096 false) (few (c .before .before .before .before .before .before .before .before .before)), whole (c .before .before .before .before .before .before .before .before .before))
+
+-- src/lib.rt:124:25
+cast-put-head : tie.Need-cast-put-head
+cast-put-head c = search needs
+
+-- src/lib.rt:124:5
+put-head-requires : tie.Need-put-head-requires
+put-head-requires c κs = (omega (arith, few (c .before .before .before .before .before .before .before .before .before .before .before .before .before), c .before .before .before .pack .ensures .few), rw (c .before .before .before .pack .kept .0) (head (c .before .before .before .before .before .before .before .before .before .before .before .before .before .before .before .before) .ten))
+
+-- src/lib.rt:115:1
+same-length : tie.Need-same-length
+same-length c = search needs
+
+-- src/lib.rt:115:1
+returns : tie.Need-returns
+returns c =
+    let s = c .before .before .before .before .before .before .before .before .before .before .before .before .before .before .before .before .before .before .before in
+    record-is (now (s .args .b)) (s .args .e .0) (c .before .before .before .before .before .before .before .before .before .before .before .before .before .before .before .before .count-at .result) (count-is (c .before .before .before .before .before .before .before .before .before .before .before .before .before .before .before .before)) (whole (c .before .before .before .before .before .before .before .before .before .before .before .before .before .before .before .before)) (c .before .before .before .before .before .before .before .before .before .before .mark-kept .ensures) (c .before .before .before .before .before .before .pack .ensures)
+    (c .before .before .put-head .ensures ∙ rw (c .before .before .before .before .before .before .before .before .before .before .before .before .before .new-mark .ensures .0, c .before .before .before .before .before .before .before .before .before .before .before .before .before .before .mark-at .ensures .0) refl)
+
+pub thin-spec : {M : Type 1} → statement M
+thin-spec =
+    tie.close
+    (tie.spec
+    count-at-requires
+    mark-at-requires
+    new-mark-requires
+    slice-aggregate-mark-kept
+    mark-kept-requires
+    slice-aggregate-pack
+    pack-requires
+    cast-put-head
+    put-head-requires
+    same-length
+    returns)

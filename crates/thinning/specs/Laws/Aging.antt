@@ -1,0 +1,69 @@
+-- Aging: what the marks, the packing and the head make of a record, the checks in order, and the one step of every call.
+use mathlib.Core.Path.{_≡_, refl, sym, _∙_, ap}
+use mathlib.Core.Bool.{Bool, true, false}
+use mathlib.Core.List.{List, [], _∷_, _++_}
+use mathlib.Core.Option.{Option, some, none}
+use Prim.Native.Nat.{ℕ, _+_, _*_, _-_, _<_, _≤_}
+use native.Mathlib.Omega.{arith}
+use lib.ListN.{length, drop, set}
+use Rattle.distance.specs.Fix.{Fix}
+use lib.Seq.{sets}
+use borrow.Author.Tests.{lt-ltb, le-ltb}
+use Rattle.distance.specs.Distance.{deviation, allowance}
+use Rattle.record.specs.Format.{trail, mark-field, count-field, fixes, fix-at, each, all-bytes, header-bytes, record-bytes}
+use Rattle.record.specs.Checks.{Check, high-tolerance, sentence, first, asked-of, refusal, aging, aging-by-days, reading, read-refusal, checks}
+use Rattle.record.specs.Answers.{gives, turns-away}
+use Rattle.record.specs.Laws.Each.{length-each}
+use Rattle.record.specs.Laws.First.{stops, passes, none-first, some-first, reading-alone}
+use Rattle.thinning.specs.Thinning.{Thinned, thinning, thinned}
+use Rattle.thinning.specs.Marks.{kept-by, Cleared, Says, Marks}
+use Rattle.thinning.specs.Aging.{new-mark, thinned-record, with-tolerance, age-refusal, age-answer, aged, days-give, days-refusal, days-answer, aged-by-days, count-at, record-at}
+use Rattle.thinning.specs.Laws.Pack.{Packed, packed-record}
+use Rattle.thinning.specs.Laws.Marks.{marks-thinning}
+use Rattle.thinning.specs.Laws.KeptBy.{kept-by-length, ready}
+
+-- ---- the marks and the count are the definition's
+pub marks-say : (f : ℕ → Fix) (e n : ℕ) (k : List Bool) {k2 : List Bool} {c : ℕ} → Cleared k → 1 ≤ n → n ≤ length k → Marks deviation allowance f e 0 (n - 1) (set (set k 0 true) (n - 1) true) k2 c
+    → Says (thinning e (each f 0 n)) k2 (each f 0 n) c
+marks-say f e n k {k2} {c} clear one room m =
+    let t = marks-thinning f e n one (ready k n clear one room) m in
+    record { says-kept = ap (λ (t : Thinned Fix). t .kept) t; says-count = ap (λ (t : Thinned Fix). t .count) t }
+
+-- ---- and so is the record that the code leaves
+pub record-is : (b : List ℕ) (e n : ℕ) {k : List Bool} {c w : ℕ} {p d : List ℕ} → n ≡ count-field b → 10 + 8 * n ≤ length b → Says (thinning e (each (fix-at trail b) 0 n)) k (each (fix-at trail b) 0 n) c
+    → Packed b k n p w → d ≡ sets p 0 (header-bytes trail (new-mark (mark-field b) e) w) → (c ≡ (thinning e (fixes trail b)) .count) × (d ≡ thinned-record b e)
+unfolding thinned-record
+record-is b e n {k} {d} is whole t q s =
+    let l = kept-by k 0 (each (fix-at trail b) 0 n) in
+    let few : length l ≤ n = rw (length-each (fix-at trail b) 0 n) at (kept-by-length k 0 (each (fix-at trail b) 0 n)) in
+    rw (← is) (sym (t .says-count), rw (t .says-kept) (packed-record b d (new-mark (mark-field b) e) l (omega arith) (s ∙ rw (q .stored, q .many) refl)))
+
+-- ---- the checks: the reader's, and then 10
+module _ (b : List ℕ) (e : ℕ) where
+  abbrev says : Check → Bool
+  says = sentence trail (asked-of trail b (with-tolerance e))
+
+  -- what the reader turns away aging turns away by the same number
+  pub age-reader : (k : ℕ) → read-refusal trail b ≡ some k → age-refusal b e ≡ some k
+  age-reader k h = some-first says (checks reading) (high-tolerance ∷ []) k (reading-alone trail b (with-tolerance e) ∙ h)
+
+  pub age-10 : read-refusal trail b ≡ none → 32000 < e → age-refusal b e ≡ some 10
+  unfolding sentence
+  age-10 h g = none-first says (checks reading) (high-tolerance ∷ []) (reading-alone trail b (with-tolerance e) ∙ h) ∙ stops says high-tolerance [] (lt-ltb 32000 e g)
+
+  pub age-none : read-refusal trail b ≡ none → e ≤ 32000 → age-refusal b e ≡ none
+  unfolding sentence first
+  age-none h g = none-first says (checks reading) (high-tolerance ∷ []) (reading-alone trail b (with-tolerance e) ∙ h) ∙ passes says high-tolerance [] (le-ltb 32000 e g)
+
+-- ---- the answer and the buffer, case by case
+pub age-refused : (b : List ℕ) (e k : ℕ) → age-refusal b e ≡ some k → (turns-away k ≡ age-answer b e) × (b ≡ aged b e)
+age-refused b e k h = (rw h refl, rw h refl)
+
+pub age-done : (b : List ℕ) (e : ℕ) → age-refusal b e ≡ none → (gives ((thinning e (fixes trail b)) .count) ≡ age-answer b e) × (thinned-record b e ≡ aged b e)
+age-done b e h = (rw h refl, rw h refl)
+
+pub days-refused : (b : List ℕ) (d k : ℕ) → read-refusal trail b ≡ some k → (turns-away k ≡ days-answer b d) × (b ≡ aged-by-days b d)
+days-refused b d k h = (rw h refl, rw h refl)
+
+pub days-done : (b : List ℕ) (d : ℕ) (t : Option ℕ) → days-give d ≡ t → read-refusal trail b ≡ none → (gives (count-at t b) ≡ days-answer b d) × (record-at t b ≡ aged-by-days b d)
+days-done b d t e h = (rw (h, e) refl, rw (h, e) refl)
