@@ -1,6 +1,7 @@
 -- What a reader must believe:
 pub mod Thinning
 pub mod Aging
+pub mod Answers
 -- the worked trails, computed on it:
 pub mod Worked
 -- what the code promises on the way to it:

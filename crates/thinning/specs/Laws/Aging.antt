@@ -8,16 +8,16 @@ use native.Mathlib.Omega.{arith}
 use lib.ListN.{length, drop, set}
 use Rattle.distance.specs.Fix.{Fix}
 use lib.Seq.{sets}
-use borrow.Author.Tests.{lt-ltb, le-ltb}
+use borrow.Author.Tests.{lt-ltb, le-ltb, le-leb, lt-leb}
 use Rattle.distance.specs.Distance.{deviation, allowance}
 use Rattle.record.specs.Format.{trail, mark-field, count-field, fixes, fix-at, each, all-bytes, header-bytes, record-bytes}
-use Rattle.record.specs.Checks.{Check, high-tolerance, sentence, first, asked-of, refusal, aging, aging-by-days, reading, read-refusal, checks}
+use Rattle.record.specs.Checks.{Check, high-tolerance, sentence, first, asked-of, refusal, aging, aging-by-days, reading, read-refusal, checks, IsAccepted}
 use Rattle.record.specs.Answers.{gives, turns-away}
 use Rattle.record.specs.Laws.Each.{length-each}
-use Rattle.record.specs.Laws.First.{stops, passes, none-first, some-first, reading-alone}
+use Rattle.record.specs.Laws.First.{stops, passes, none-first, some-first, none-front, reading-alone}
 use Rattle.thinning.specs.Thinning.{Thinned, thinning, thinned}
 use Rattle.thinning.specs.Marks.{kept-by, Cleared, Says, Marks}
-use Rattle.thinning.specs.Aging.{new-mark, thinned-record, with-tolerance, age-refusal, age-answer, aged, days-give, days-refusal, days-answer, aged-by-days, count-at, record-at}
+use Rattle.thinning.specs.Aging.{new-mark, thinned-record, with-tolerance, age-refusal, age-answer, aged, last-row, days-give, days-refusal, days-answer, aged-by-days, count-at, record-at}
 use Rattle.thinning.specs.Laws.Pack.{Packed, packed-record}
 use Rattle.thinning.specs.Laws.Marks.{marks-thinning}
 use Rattle.thinning.specs.Laws.KeptBy.{kept-by-length, ready}
@@ -39,21 +39,21 @@ record-is b e n {k} {d} is whole t q s =
     rw (← is) (sym (t .says-count), rw (t .says-kept) (packed-record b d (new-mark (mark-field b) e) l (omega arith) (s ∙ rw (q .stored, q .many) refl)))
 
 -- ---- the checks: the reader's, and then 10
-module _ (b : List ℕ) (e : ℕ) where
-  abbrev says : Check → Bool
-  says = sentence trail (asked-of trail b (with-tolerance e))
+abbrev says : List ℕ → (e : ℕ) → Check → Bool
+says b e = sentence trail (asked-of trail b (with-tolerance e))
 
+module _ (b : List ℕ) (e : ℕ) where
   -- what the reader turns away aging turns away by the same number
   pub age-reader : (k : ℕ) → read-refusal trail b ≡ some k → age-refusal b e ≡ some k
-  age-reader k h = some-first says (checks reading) (high-tolerance ∷ []) k (reading-alone trail b (with-tolerance e) ∙ h)
+  age-reader k h = some-first (says b e) (checks reading) (high-tolerance ∷ []) k (reading-alone trail b (with-tolerance e) ∙ h)
 
   pub age-10 : read-refusal trail b ≡ none → 32000 < e → age-refusal b e ≡ some 10
   unfolding sentence
-  age-10 h g = none-first says (checks reading) (high-tolerance ∷ []) (reading-alone trail b (with-tolerance e) ∙ h) ∙ stops says high-tolerance [] (lt-ltb 32000 e g)
+  age-10 h g = none-first (says b e) (checks reading) (high-tolerance ∷ []) (reading-alone trail b (with-tolerance e) ∙ h) ∙ stops (says b e) high-tolerance [] (lt-ltb 32000 e g)
 
   pub age-none : read-refusal trail b ≡ none → e ≤ 32000 → age-refusal b e ≡ none
   unfolding sentence first
-  age-none h g = none-first says (checks reading) (high-tolerance ∷ []) (reading-alone trail b (with-tolerance e) ∙ h) ∙ passes says high-tolerance [] (le-ltb 32000 e g)
+  age-none h g = none-first (says b e) (checks reading) (high-tolerance ∷ []) (reading-alone trail b (with-tolerance e) ∙ h) ∙ passes (says b e) high-tolerance [] (le-ltb 32000 e g)
 
 -- ---- the answer and the buffer, case by case
 pub age-refused : (b : List ℕ) (e k : ℕ) → age-refusal b e ≡ some k → (turns-away k ≡ age-answer b e) × (b ≡ aged b e)
@@ -67,3 +67,29 @@ days-refused b d k h = (rw h refl, rw h refl)
 
 pub days-done : (b : List ℕ) (d : ℕ) (t : Option ℕ) → days-give d ≡ t → read-refusal trail b ≡ none → (gives (count-at t b) ≡ days-answer b d) × (record-at t b ≡ aged-by-days b d)
 days-done b d t e h = (rw (h, e) refl, rw (h, e) refl)
+
+-- ---- what passes is accepted
+pub age-accepted : (b : List ℕ) (e : ℕ) → age-refusal b e ≡ none → IsAccepted trail b
+age-accepted b e h = record { accepted = sym (reading-alone trail b (with-tolerance e)) ∙ none-front (says b e) (checks reading) (high-tolerance ∷ []) h }
+
+-- ---- the table, from its last row to its first
+module _ (d : ℕ) where
+  pub from-90 : 90 ≤ d → some 400 ≡ days-give d
+  unfolding last-row
+  from-90 h = rw (le-leb 90 d h) refl
+
+  pub from-30 : d < 90 → 30 ≤ d → some 100 ≡ days-give d
+  unfolding last-row
+  from-30 a h = rw (lt-leb 90 d a, le-leb 30 d h) refl
+
+  pub from-7 : d < 90 → d < 30 → 7 ≤ d → some 25 ≡ days-give d
+  unfolding last-row
+  from-7 a b h = rw (lt-leb 90 d a, lt-leb 30 d b, le-leb 7 d h) refl
+
+  pub from-2 : d < 90 → d < 30 → d < 7 → 2 ≤ d → some 10 ≡ days-give d
+  unfolding last-row
+  from-2 a b c h = rw (lt-leb 90 d a, lt-leb 30 d b, lt-leb 7 d c, le-leb 2 d h) refl
+
+  pub from-0 : d < 90 → d < 30 → d < 7 → d < 2 → none ≡ days-give d
+  unfolding last-row
+  from-0 a b c h = rw (lt-leb 90 d a, lt-leb 30 d b, lt-leb 7 d c, lt-leb 2 d h) refl

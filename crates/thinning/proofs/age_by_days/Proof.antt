@@ -1,0 +1,71 @@
+use mathlib.Core.Path.{_≡_, sym, _∙_, ap}
+use mathlib.Core.Option.{none}
+use denote.Ref.{now}
+use Rattle.record.specs.Format.{trail}
+use Rattle.record.specs.Checks.{read-refusal}
+use Rattle.record.specs.Answers.{refused, gives}
+use Rattle.thinning.specs.Laws.Aging.{days-refused, days-done}
+use borrow.Author.Needs.{needs}
+use Rattle.thinning.proofs.age_by_days.Statement.{statement}
+use Rattle.thinning.proofs.age_by_days.Tie as tie
+use Rattle.thinning.proofs.age_by_days.Reads as reads
+use Rattle.thinning.proofs.age_by_days.Lts as lts
+use Rattle.record.proofs.check.Reads as check-reads
+use Rattle.thinning.proofs.thin_if.Reads as thin-if-reads
+use Rattle.thinning.proofs.tolerance_for.Reads as tolerance-for-reads
+
+passed : (c : tie.After-enum-told) → read-refusal trail (now (c .before .before .before .before .before .args .b)) ≡ none
+passed c = sym (c .before .before .check .ensures) ∙ ap refused (c .enum-told .given .1)
+
+-- src/lib.rt:209:9
+check-requires : tie.Need-check-requires
+check-requires c κs = search needs
+
+-- src/lib.rt:211:26
+enum-known-v : tie.Need-enum-known-v
+enum-known-v c = search needs
+
+-- src/lib.rt:212:50
+enum-told : tie.Need-enum-told
+enum-told c = search needs
+
+-- src/lib.rt:212:53
+tolerance-for-requires : tie.Need-tolerance-for-requires
+tolerance-for-requires c κs = search needs
+
+-- src/lib.rt:212:42
+thin-if-requires : tie.Need-thin-if-requires
+thin-if-requires c κs = record { accepted = passed (c .before .before) }
+
+-- src/lib.rt:206:1
+same-length : tie.Need-same-length
+same-length c = search needs
+
+-- src/lib.rt:206:1
+returns : tie.Need-returns
+returns c = days-refused _ _ _ (sym (c .before .before .before .check .ensures) ∙ ap refused (c .before .v .given .1))
+
+-- src/lib.rt:206:1
+same-length-2 : tie.Need-same-length-2
+same-length-2 c = search needs
+
+-- src/lib.rt:206:1
+returns-2 : tie.Need-returns-2
+returns-2 c =
+    let s = c .before .before .before .before .before .before .before .before .before .before in
+    let d = days-done (now (s .args .b)) (s .args .days .0) _ (sym (c .before .before .before .tolerance-for .ensures)) (passed (c .before .before .before .before .before)) in
+    (ap gives (c .before .before .thin-if .ensures .0) ∙ d .0, c .before .before .thin-if .ensures .1 ∙ d .1)
+
+pub age-by-days-spec : {M : Type 1} → statement M
+age-by-days-spec =
+    tie.close
+    (tie.spec
+    check-requires
+    enum-known-v
+    enum-told
+    tolerance-for-requires
+    thin-if-requires
+    same-length
+    returns
+    same-length-2
+    returns-2)

@@ -1,0 +1,18 @@
+-- What the enums of the code say, as the paper's numbers and values.
+use mathlib.Core.Option.{Option, some, none}
+use Prim.Native.Nat.{ℕ}
+use Rattle.record.specs.Answers.{Answer, gives, turns-away}
+use Rattle.thinning.specs.declared.Aged.{Aged}
+use Rattle.thinning.specs.declared.Aged.the-variants.{Count, Refused}
+use Rattle.thinning.specs.declared.Applied.{Applied}
+use Rattle.thinning.specs.declared.Applied.the-variants.{NoTolerance, At}
+
+-- What an aging answered: the count, or the number of its refusal.
+abbrev pub counted : Aged → Answer ℕ
+counted (Count c) = gives c
+counted (Refused k) = turns-away k
+
+-- The tolerance that days give, or none.
+abbrev pub applied : Applied → Option ℕ
+applied NoTolerance = none
+applied (At e) = some (e .0)
