@@ -11,3 +11,4 @@ pub mod Marks
 pub mod Spans
 pub mod Pack
 pub mod Aging
+pub mod Step

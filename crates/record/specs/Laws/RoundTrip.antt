@@ -13,7 +13,7 @@ use lib.IntN.{ℤ, pos, negsuc}
 use mir.Syntax.{w16}
 use mir.Val.{SFits}
 use Rattle.distance.specs.Fix.{Fix}
-use Rattle.distance.specs.Laws.All.{All, all-none, all-more}
+use Rattle.distance.specs.Laws.All.{All, all-none, all-more, all-append}
 use Rattle.distance.specs.Integers.Tests.{Test, holds, fails, test}
 use Rattle.record.specs.Bytes.{number-at, bytes-of, signed, unsigned}
 use Rattle.record.specs.Format.{trail, each, fix-at, fix-bytes, all-bytes, header-bytes, record-bytes, length-field, kind-field, mark-field, count-field, fixes}
@@ -152,6 +152,17 @@ number-below : (b : List ℕ) (at : ℕ) → AreBytes b → number-at b at 2 < 6
 unfolding number-at
 number-below b at h = omega (arith, byte-at at h, byte-at (suc at) h)
 
+number-below-four : (b : List ℕ) (at : ℕ) → AreBytes b → number-at b at 4 < 4294967296
+unfolding number-at
+number-below-four b at h = omega (arith, byte-at at h, byte-at (suc at) h, byte-at (suc (suc at)) h, byte-at (suc (suc (suc at))) h)
+
+signed-fits : (n : ℕ) → n < 65536 → SFits w16 (signed 2 n)
+signed-fits n h = go (test 32768 n)
+  where
+    go : {b : Bool} → Test 32768 n b → SFits w16 (signed 2 n)
+    go (holds t) = rw (← signed-high n t h) (record { sfits = omega arith })
+    go (fails t) = rw (← signed-low n t) (record { sfits = t })
+
 unsigned-back : (n : ℕ) → n < 65536 → unsigned 2 (signed 2 n) ≡ n
 unfolding unsigned
 unsigned-back n h = go (test 32768 n)
@@ -189,3 +200,31 @@ rewrites b h len kind whole =
     let second : bytes-of 2 1 ≡ take 2 (drop 4 b) = rw (← kind) (write-number b 4 2 h (omega arith)) in
     rw (count, first, second, write-number b 6 2 h (omega arith), write-number b 8 2 h (omega arith), write-fixes b 0 n h (omega arith), len)
     (rw (take-more b 6 2 2, take-more b 4 2 4, take-more b 0 4 6, take-more b 0 10 (8 * n)) refl)
+
+-- what bytes say is in range, ..
+fix-in-range : (b : List ℕ) (k : ℕ) → AreBytes b → InRange (fix-at trail b k)
+unfolding fix-at
+fix-in-range b k h =
+    let at = 10 + 8 * k in
+    record { t32 = number-below-four b at h; x16 = signed-fits (number-at b (at + 4) 2) (number-below b (at + 4) h); y16 = signed-fits (number-at b (at + 4 + 2) 2) (number-below b (at + 4 + 2) h) }
+
+pub bytes-in-range : (b : List ℕ) (k n : ℕ) → AreBytes b → All InRange (each (fix-at trail b) k n)
+unfolding each
+bytes-in-range b k zero h = all-none
+bytes-in-range b k (suc n) h = all-more (fix-in-range b k h) (bytes-in-range b (suc k) n h)
+
+-- .. and what is written are bytes
+bytes-are : (size n : ℕ) → AreBytes (bytes-of size n)
+unfolding bytes-of
+bytes-are zero n = all-none
+bytes-are (suc size) n = all-more {m = n % 256} (omega arith) (bytes-are size (n / 256))
+
+fixes-are-bytes : (l : List Fix) → AreBytes (all-bytes trail l)
+unfolding all-bytes fix-bytes
+fixes-are-bytes [] = all-none
+fixes-are-bytes (f ∷ l) = all-append (all-append (bytes-are 4 (f .t)) (all-append (bytes-are 2 (unsigned 2 (f .x))) (bytes-are 2 (unsigned 2 (f .y))))) (fixes-are-bytes l)
+
+pub record-are-bytes : (mark : ℕ) (l : List Fix) → AreBytes (record-bytes trail mark l)
+unfolding record-bytes header-bytes
+record-are-bytes mark l =
+    all-append (all-append (bytes-are 4 (10 + 8 * length l)) (all-append (bytes-are 2 1) (all-append (bytes-are 2 mark) (bytes-are 2 (length l))))) (fixes-are-bytes l)

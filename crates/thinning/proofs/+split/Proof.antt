@@ -1,7 +1,7 @@
 use Rattle.thinning.specs.Laws.Marks.{marks-small}
 use lib.ListN.{length-set}
 use Rattle.thinning.specs.Laws.Spans.{fewer}
-use Prim.Native.Nat.{_+_, _*_, _-_, _≤_}
+use Prim.Native.Nat.{_-_}
 use borrow.Author.Needs.{needs}
 use native.Mathlib.Omega.{arith}
 use Rattle.thinning.specs.Marks.{marks-none, marks-ends, marks-split}

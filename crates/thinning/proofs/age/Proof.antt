@@ -7,10 +7,6 @@ use Rattle.thinning.specs.Laws.Aging.{age-accepted, age-refused, age-don
 use borrow.Author.Needs.{needs}
 use Rattle.thinning.proofs.age.Statement.{statement}
 use Rattle.thinning.proofs.age.Tie as tie
-use Rattle.thinning.proofs.age.Reads as reads
-use Rattle.thinning.proofs.age.Lts as lts
-use Rattle.thinning.proofs.age_says.Reads as age-says-reads
-use Rattle.thinning.proofs.thin.Reads as thin-reads
 
 passed : (c : tie.After-enum-told) → age-refusal (now (c .before .before .before .before .before .args .b)) (c .before .before .before .before .before .args .e .0) ≡ none
 passed c = sym (c .before .before .age-says .ensures) ∙ ap refused (c .enum-told .given .1)

@@ -8,11 +8,6 @@ use Rattle.thinning.specs.Laws.Aging.{days-refused, days-done}
 use borrow.Author.Needs.{needs}
 use Rattle.thinning.proofs.age_by_days.Statement.{statement}
 use Rattle.thinning.proofs.age_by_days.Tie as tie
-use Rattle.thinning.proofs.age_by_days.Reads as reads
-use Rattle.thinning.proofs.age_by_days.Lts as lts
-use Rattle.record.proofs.check.Reads as check-reads
-use Rattle.thinning.proofs.thin_if.Reads as thin-if-reads
-use Rattle.thinning.proofs.tolerance_for.Reads as tolerance-for-reads
 
 passed : (c : tie.After-enum-told) → read-refusal trail (now (c .before .before .before .before .before .args .b)) ≡ none
 passed c = sym (c .before .before .check .ensures) ∙ ap refused (c .enum-told .given .1)

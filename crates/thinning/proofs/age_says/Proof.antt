@@ -5,9 +5,6 @@ use Rattle.thinning.specs.Laws.Aging.{age-reader, age-10, age-none}
 use borrow.Author.Needs.{needs}
 use Rattle.thinning.proofs.age_says.Statement.{statement}
 use Rattle.thinning.proofs.age_says.Tie as tie
-use Rattle.thinning.proofs.age_says.Reads as reads
-use Rattle.thinning.proofs.age_says.Lts as lts
-use Rattle.record.proofs.check.Reads as check-reads
 
 -- src/lib.rt:141:9
 check-requires : tie.Need-check-requires

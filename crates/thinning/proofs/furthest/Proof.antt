@@ -10,10 +10,6 @@ use Rattle.thinning.specs.Laws.Search.{furthest-one, furthest-new, furth
 use Rattle.thinning.specs.Laws.Spans.{spanned, measured}
 use Rattle.thinning.proofs.furthest.Statement.{statement}
 use Rattle.thinning.proofs.furthest.Tie as tie
-use Rattle.thinning.proofs.furthest.Reads as reads
-use Rattle.thinning.proofs.furthest.Lts as lts
-use Rattle.distance.proofs.deviation.Reads as deviation-reads
-use Rattle.record.proofs.fix_at.Reads as fix-at-reads
 
 abbrev Inv-loop : tie.InvT-loop
 Inv-loop b lo hi i j at₀ value₀ k₀ at value k = (k ≤ hi) × (lo < k) × Furthest (λ x. deviation (fix-at trail b lo) (fix-at trail b x) (fix-at trail b hi)) lo k at value

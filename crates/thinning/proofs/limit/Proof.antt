@@ -4,10 +4,6 @@ use native.Mathlib.Omega.{arith}
 use borrow.Author.Needs.{needs}
 use Rattle.thinning.proofs.limit.Statement.{statement}
 use Rattle.thinning.proofs.limit.Tie as tie
-use Rattle.thinning.proofs.limit.Reads as reads
-use Rattle.thinning.proofs.limit.Lts as lts
-use Rattle.distance.proofs.allowance.Reads as allowance-reads
-use Rattle.record.proofs.fix_at.Reads as fix-at-reads
 
 -- src/lib.rt:25:9
 fix-at-requires : tie.Need-fix-at-requires

@@ -10,9 +10,6 @@ use Rattle.thinning.specs.Laws.Aging.{marks-say}
 use borrow.Author.Needs.{needs}
 use Rattle.thinning.proofs.mark_kept.Statement.{statement}
 use Rattle.thinning.proofs.mark_kept.Tie as tie
-use Rattle.thinning.proofs.mark_kept.Reads as reads
-use Rattle.thinning.proofs.mark_kept.Lts as lts
-use Rattle.thinning.proofs.split.Reads as split-reads
 
 -- src/lib.rt:108:16
 sub-last : tie.Need-sub-last

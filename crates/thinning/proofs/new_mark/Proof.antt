@@ -5,8 +5,6 @@ use Rattle.thinning.specs.Aging.{new-mark}
 use borrow.Author.Needs.{needs}
 use Rattle.thinning.proofs.new_mark.Statement.{statement}
 use Rattle.thinning.proofs.new_mark.Tie as tie
-use Rattle.thinning.proofs.new_mark.Reads as reads
-use Rattle.thinning.proofs.new_mark.Lts as lts
 
 -- src/lib.rt:94:13
 cast-t : tie.Need-cast-t

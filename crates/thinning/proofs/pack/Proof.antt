@@ -1,4 +1,4 @@
-use mathlib.Core.Path.{_≡_, refl, sym, _∙_, ap}
+use mathlib.Core.Path.{_≡_, refl, _∙_, ap}
 use mathlib.Core.Logic.{⊎-elim}
 use Prim.Native.Nat.{_+_, _*_, _-_, _≤_}
 use native.Mathlib.Omega.{arith}
@@ -10,10 +10,6 @@ use Rattle.record.specs.Format.{trail, fix-bytes}
 use Rattle.thinning.specs.Laws.Pack.{Packed, packed-none, packed-skip, packed-more}
 use Rattle.thinning.proofs.pack.Statement.{statement}
 use Rattle.thinning.proofs.pack.Tie as tie
-use Rattle.thinning.proofs.pack.Reads as reads
-use Rattle.thinning.proofs.pack.Lts as lts
-use Rattle.record.proofs.fix_at.Reads as fix-at-reads
-use Rattle.record.proofs.put_fix.Reads as put-fix-reads
 
 abbrev Inv-loop : tie.InvT-loop
 Inv-loop b₀ keep n w₀ i₀ b w i = (i ≤ n) × (length b ≡ length b₀) × Packed b₀ keep i b w
@@ -63,12 +59,11 @@ loop-again c =
     let i = c .before .before .before .loop .inv in
     ⊎-elim
     (λ w.
-        let e = w .7 ∙ w .4 .ensures in
-        (
-          omega arith,
-          ap length e ∙ length-sets (c .before .before .before .loop .b) (10 + 8 * c .before .before .before .loop .w) (fix-bytes trail (fixOf (w .2 .result))) ∙ i .1,
-          rw (w .8) (packed-more (i .2) (fixOf (w .2 .result)) (w .0 .taken) (w .2 .ensures) e),
-        ))
+    let e = w .7 ∙ w .4 .ensures in (
+      omega arith,
+      ap length e ∙ length-sets (c .before .before .before .loop .b) (10 + 8 * c .before .before .before .loop .w) (fix-bytes trail (fixOf (w .2 .result))) ∙ i .1,
+      rw (w .8) (packed-more (i .2) (fixOf (w .2 .result)) (w .0 .taken) (w .2 .ensures) e),
+    ))
     (λ w. (omega arith, ap length (w .1) ∙ i .1, rw (w .1, w .2) (packed-skip (i .2) (w .0 .left))))
     (c .if1 .came)
 

@@ -13,14 +13,6 @@ use Rattle.thinning.specs.Laws.Aging.{record-is}
 use borrow.Author.Needs.{needs}
 use Rattle.thinning.proofs.thin.Statement.{statement}
 use Rattle.thinning.proofs.thin.Tie as tie
-use Rattle.thinning.proofs.thin.Reads as reads
-use Rattle.thinning.proofs.thin.Lts as lts
-use Rattle.record.proofs.count_at.Reads as count-at-reads
-use Rattle.record.proofs.mark_at.Reads as mark-at-reads
-use Rattle.record.proofs.put_head.Reads as put-head-reads
-use Rattle.thinning.proofs.mark_kept.Reads as mark-kept-reads
-use Rattle.thinning.proofs.new_mark.Reads as new-mark-reads
-use Rattle.thinning.proofs.pack.Reads as pack-reads
 
 -- what acceptance gives
 head : (s : tie.Start) → Head (now (s .args .b))
@@ -56,8 +48,7 @@ slice-aggregate-mark-kept c = search needs
 mark-kept-requires : tie.Need-mark-kept-requires
 mark-kept-requires c κs =
     let n = c .before .before .before .before .before in
-    let h = head (c .before .before .before .before .before .before .before .before) in
-    (
+    let h = head (c .before .before .before .before .before .before .before .before) in (
       omega (arith, count-is n, h .some-fix),
       few n,
       rw (length-replicate 4096 false) (few n),

@@ -7,9 +7,6 @@ use Rattle.thinning.specs.Answers.{applied}
 use borrow.Author.Needs.{needs}
 use Rattle.thinning.proofs.thin_if.Statement.{statement}
 use Rattle.thinning.proofs.thin_if.Tie as tie
-use Rattle.thinning.proofs.thin_if.Reads as reads
-use Rattle.thinning.proofs.thin_if.Lts as lts
-use Rattle.thinning.proofs.thin.Reads as thin-reads
 
 -- src/lib.rt:200:33
 enum-told : tie.Need-enum-told

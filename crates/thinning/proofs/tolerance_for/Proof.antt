@@ -1,8 +1,6 @@
 use Rattle.thinning.specs.Laws.Aging.{from-90, from-30, from-7, from-2, from-0}
 use Rattle.thinning.proofs.tolerance_for.Statement.{statement}
 use Rattle.thinning.proofs.tolerance_for.Tie as tie
-use Rattle.thinning.proofs.tolerance_for.Reads as reads
-use Rattle.thinning.proofs.tolerance_for.Lts as lts
 
 -- src/lib.rt:180:9
 returns : tie.Need-returns

@@ -1,23 +1,23 @@
 -- Aging: what the marks, the packing and the head make of a record, the checks in order, and the one step of every call.
 use mathlib.Core.Path.{_≡_, refl, sym, _∙_, ap}
-use mathlib.Core.Bool.{Bool, true, false}
-use mathlib.Core.List.{List, [], _∷_, _++_}
+use mathlib.Core.Bool.{Bool, true}
+use mathlib.Core.List.{List, [], _∷_}
 use mathlib.Core.Option.{Option, some, none}
 use Prim.Native.Nat.{ℕ, _+_, _*_, _-_, _<_, _≤_}
 use native.Mathlib.Omega.{arith}
-use lib.ListN.{length, drop, set}
+use lib.ListN.{length, set}
 use Rattle.distance.specs.Fix.{Fix}
 use lib.Seq.{sets}
 use borrow.Author.Tests.{lt-ltb, le-ltb, le-leb, lt-leb}
 use Rattle.distance.specs.Distance.{deviation, allowance}
-use Rattle.record.specs.Format.{trail, mark-field, count-field, fixes, fix-at, each, all-bytes, header-bytes, record-bytes}
-use Rattle.record.specs.Checks.{Check, high-tolerance, sentence, first, asked-of, refusal, aging, aging-by-days, reading, read-refusal, checks, IsAccepted}
+use Rattle.record.specs.Format.{trail, mark-field, count-field, fixes, fix-at, each, header-bytes}
+use Rattle.record.specs.Checks.{Check, high-tolerance, sentence, first, asked-of, reading, read-refusal, checks, IsAccepted}
 use Rattle.record.specs.Answers.{gives, turns-away}
 use Rattle.record.specs.Laws.Each.{length-each}
 use Rattle.record.specs.Laws.First.{stops, passes, none-first, some-first, none-front, reading-alone}
-use Rattle.thinning.specs.Thinning.{Thinned, thinning, thinned}
+use Rattle.thinning.specs.Thinning.{Thinned, thinning}
 use Rattle.thinning.specs.Marks.{kept-by, Cleared, Says, Marks}
-use Rattle.thinning.specs.Aging.{new-mark, thinned-record, with-tolerance, age-refusal, age-answer, aged, last-row, days-give, days-refusal, days-answer, aged-by-days, count-at, record-at}
+use Rattle.thinning.specs.Aging.{new-mark, thinned-record, with-tolerance, age-refusal, age-answer, aged, last-row, days-give, days-answer, aged-by-days, count-at, record-at}
 use Rattle.thinning.specs.Laws.Pack.{Packed, packed-record}
 use Rattle.thinning.specs.Laws.Marks.{marks-thinning}
 use Rattle.thinning.specs.Laws.KeptBy.{kept-by-length, ready}

@@ -2,18 +2,16 @@
 use mathlib.Core.Path.{_≡_, refl, sym, _∙_, ap}
 use mathlib.Core.Bool.{Bool, true, false}
 use mathlib.Core.List.{List, [], _∷_, _++_}
-use Prim.Native.Nat.{ℕ, zero, suc, _+_, _*_, _<_, _≤_}
+use Prim.Native.Nat.{ℕ, suc, _+_, _*_, _<_, _≤_}
 use native.Mathlib.Omega.{arith}
-use native.Mathlib.Numerals.{add-one}
 use lib.ListN.{length, getD, drop, set, length-append}
-use lib.Seq.{sets, length-sets, set-comm}
+use lib.Seq.{sets, set-comm}
 use Rattle.distance.specs.Fix.{Fix}
 use Rattle.record.specs.Format.{trail, each, fix-at, fix-bytes, all-bytes, header-bytes, record-bytes}
-use Rattle.record.specs.Laws.Each.{length-each}
 use Rattle.record.specs.Laws.Stores.{sets-then, number-beyond}
 use Rattle.record.specs.Laws.Writing.{length-header, length-all-bytes, all-bytes-more, record-stores}
 use Rattle.thinning.specs.Marks.{kept-by}
-use Rattle.thinning.specs.Laws.KeptBy.{kept-by-length, kept-by-more, kept-by-skip}
+use Rattle.thinning.specs.Laws.KeptBy.{kept-by-more, kept-by-skip}
 
 -- a fix beyond the stores is as it was
 pub fix-beyond : (b l : List ℕ) (k : ℕ) → length l ≤ 8 * k → fix-at trail (sets b 10 l) k ≡ fix-at trail b k

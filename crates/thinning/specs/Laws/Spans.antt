@@ -1,18 +1,17 @@
 -- The fixes of an accepted record, by position: in order, within the limits, and no longer than a record may be.
-use mathlib.Core.Path.{_≡_, refl, sym, _∙_, ap}
+use mathlib.Core.Path.{_≡_, refl, _∙_}
 use mathlib.Core.Logic.{⊎-elim}
 use mathlib.Core.Bool.{false}
-use mathlib.Core.List.{List, [], _∷_}
-use Prim.Native.Nat.{ℕ, zero, suc, _+_, _-_, _<_, _≤_}
+use mathlib.Core.List.{List, _∷_}
+use Prim.Native.Nat.{ℕ, zero, suc, _+_, _<_, _≤_}
 use native.Mathlib.Nat.{eq-or-lt-of-le}
 use native.Mathlib.Omega.{arith}
-use Rattle.distance.specs.Fix.{Fix, Placed, After, none-after, later, Rising, no-fix, rising}
+use Rattle.distance.specs.Fix.{Fix, Placed, After, later, Rising, rising}
 use Rattle.distance.specs.Distance.{deviation}
 use Rattle.distance.specs.Span.{Span}
-use Rattle.distance.specs.Laws.All.{All, all-none, all-more}
+use Rattle.distance.specs.Laws.All.{All, all-more}
 use Rattle.record.specs.Format.{trail, count-field, fix-at, each}
 use Rattle.record.specs.Checks.{IsAccepted, some-outside, some-early, last-fix, of-ends, too-long}
-use Rattle.record.specs.Laws.Each.{each-first}
 use Rattle.record.specs.Laws.Accepted.{Good, accepted-good, places-good, times-good, span-good}
 use Rattle.thinning.specs.Spans.{Spans}
 
