@@ -136,7 +136,8 @@ fn stretch(fixes: &mut [Fix], random: &mut Random) {
     }
 }
 
-/// Makes the sentence of check 7, 8 or 9 true of two or more fixes.
+/// Makes the sentence of check 7, 8 or 9 true of two or more fixes that are accepted, or have faults of later
+/// checks only.
 pub fn spoil(fault: u8, fixes: &mut [Fix], random: &mut Random) {
     match fault {
         7 => misplace(fixes, random),

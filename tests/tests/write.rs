@@ -101,50 +101,57 @@ impl Run {
             self.case(list, output, fault, what);
         }
     }
+
+    /// Lists of every size that matters.
+    fn sizes(&mut self) {
+        for n in [1, 2, 3, 17, 256, 4_095, MOST_FIXES] {
+            let list = fixes(&mut self.random, n);
+            self.outputs(&list, 0, &format!("{n} fixes"));
+        }
+    }
+
+    /// No fix, and too many, with a later check's fault among them.
+    fn counts(&mut self) {
+        for n in [0, MOST_FIXES + 1, 5_000, 65_536 + 1] {
+            let mut list = fixes(&mut self.random, 2);
+            spoil(7, &mut list, &mut self.random);
+            list.resize(n, list[0]);
+            self.outputs(&list, 3, &format!("{n} fixes"));
+        }
+    }
+
+    /// A list of n fixes with these faults, the latest check's first; the last of them is the answer.
+    fn faults(&mut self, n: usize, faults: &[u8]) {
+        let mut list = fixes(&mut self.random, n);
+        for &fault in faults {
+            spoil(fault, &mut list, &mut self.random);
+        }
+        let known = faults.last().copied().unwrap_or(0);
+        self.outputs(
+            &list,
+            known.into(),
+            &format!("{n} fixes, faults {faults:?}"),
+        );
+    }
 }
 
 #[test]
 fn lists_are_written_or_refused_as_the_plain_version_does() {
     let mut run = Run::new();
-    for n in [1, 2, 3, 17, 256, 4_095, MOST_FIXES] {
-        let list = fixes(&mut run.random, n);
-        run.outputs(&list, 0, &format!("{n} fixes"));
-    }
-    for n in [0, MOST_FIXES + 1, 5_000, 65_536 + 1] {
-        let mut list = fixes(&mut run.random, n.clamp(2, MOST_FIXES));
-        spoil(7, &mut list, &mut run.random);
-        list.resize(n, list[0]);
-        run.outputs(&list, 3, &format!("{n} fixes, one misplaced"));
-    }
+    run.sizes();
+    run.counts();
+    let faults: [&[u8]; 7] = [&[], &[7], &[8], &[9], &[8, 7], &[9, 7], &[9, 8]];
     for n in [2, 3, 20, MOST_FIXES] {
-        for (first, second) in [(7, 7), (8, 8), (9, 9), (7, 8), (7, 9), (8, 9)] {
-            let mut list = fixes(&mut run.random, n);
-            for fault in [second, first] {
-                spoil(fault, &mut list, &mut run.random);
-            }
-            run.outputs(
-                &list,
-                first.into(),
-                &format!("{n} fixes, faults {first}, {second}"),
-            );
+        for some in faults {
+            run.faults(n, some);
         }
     }
-    run.tally.expect("write", &[3, 7, 8, 9, 15]);
-}
-
-#[test]
-fn random_lists_are_written_or_refused_as_the_plain_version_does() {
-    let mut run = Run::new();
     for _ in 0..run.settings.cases {
         let n = run.random.between(2, 40) as usize;
-        let mut list = fixes(&mut run.random, n);
-        let fault = run.random.pick(&[0, 0, 7, 8, 9]);
-        if fault != 0 {
-            spoil(fault, &mut list, &mut run.random);
-        }
-        run.outputs(&list, fault.into(), &format!("{n} fixes, fault {fault}"));
+        let some = run.random.pick(&faults);
+        run.faults(n, some);
     }
-    run.tally.expect("random writes", &[7, 8, 9, 15]);
+    run.tally.expect("write", &[3, 7, 8, 9, 15]);
 }
 
 #[test]
