@@ -7,7 +7,7 @@ use std::io::{ErrorKind, Write};
 use std::process::{ChildStdin, Command, Stdio};
 
 use trails_tests::cases::{Cases, Draft, Random, Settings};
-use trails_tests::plain::{self, LONGEST, MOST_FIXES};
+use trails_tests::plain::{self, Fix, LONGEST, MOST_FIXES};
 
 fn program() -> String {
     let built = concat!(env!("CARGO_MANIFEST_DIR"), "/../target/bin/listing");
@@ -135,6 +135,21 @@ fn long_inputs_are_read_to_the_last_byte_of_the_longest_record_and_no_further() 
         draft.lent = Some(LONGEST - 1);
         lists_like_plain(&draft.bytes(), 4_096, &what);
     }
+}
+
+#[test]
+fn the_longest_text_is_printed_whole() {
+    let place = |t| Fix {
+        t,
+        x: -16_000,
+        y: -16_000,
+    };
+    let first = u32::MAX - (MOST_FIXES as u32 - 1);
+    let fixes = (first..=u32::MAX).map(place).collect();
+    let input = Draft::new(fixes, 32_000, Vec::new()).bytes();
+    // two lines of 17 and 4 bytes, and 29 bytes a fix, each number as long as it can be
+    assert_eq!(plain::listing(&input).len(), 17 + 29 * MOST_FIXES + 4);
+    lists_like_plain(&input, LONGEST, "the longest text");
 }
 
 #[test]
