@@ -150,7 +150,6 @@ pub fn spoil(fault: u8, fixes: &mut [Fix], random: &mut Random) {
 // ---- records
 
 /// A record in the making, whose parts may be made wrong one by one.
-#[derive(Clone)]
 pub struct Draft {
     pub head: Head,
     pub fixes: Vec<Fix>,
@@ -206,7 +205,12 @@ impl Draft {
         match fault {
             1 => self.lent = Some(random.between(0, 9) as usize),
             2 => self.head.kind = random.pick(&[0, 2, 256, 257, 65_535]),
-            3 => self.set_count(random.pick(&[0, 4_097, 4_352, 65_535])),
+            3 => {
+                // a length that was wrong already stays so
+                let wrong = (self.head.length != length).then_some(self.head.length);
+                self.set_count(random.pick(&[0, 4_097, 4_352, 65_535]));
+                self.head.length = wrong.unwrap_or(self.head.length);
+            }
             4 => {
                 let wrong = [
                     0,
