@@ -8,6 +8,10 @@ use lib.ListN.{length}
 use Rattle.distance.specs.Fix.{Fix}
 use Rattle.record.specs.Format.{Kind, count-field, record-length, fix-at}
 
+-- What a field of the head says; of bytes that are no whole head, 0.
+unfoldable pub of-head : (List ℕ → ℕ) → List ℕ → ℕ
+of-head field b = cond (ltb (length b) 10) 0 (field b)
+
 -- A fix stands at position k: the count says so, and the lent bytes hold it. Of an accepted record the first suffices (`yields-fix` of
 -- Laws/Reading.antt); bytes or a position of somebody's own making are read no further than they go.
 unfoldable pub stands : Kind → List ℕ → ℕ → Bool

@@ -14,7 +14,7 @@ ghost use Rattle.distance.specs.Fix.{Fix as Plain, fixOf};
 ghost use Rattle.record.specs.Bytes.{number-at, bytes-of, signed, unsigned};
 ghost use Rattle.record.specs.Format.{trail, mark-field, count-field, fix-at, each, fix-bytes, all-bytes, header-bytes};
 ghost use Rattle.record.specs.Checks.{Asked, sentence, first, asked-of, nothing, head-checks, fix-checks, read-refusal, refusal, writing, outside, fix-outside};
-ghost use Rattle.record.specs.Reading.{stands, yields, moves};
+ghost use Rattle.record.specs.Reading.{of-head, stands, yields, moves};
 ghost use Rattle.record.specs.Writing.{asked-to-write, column-fix, columns, write-answer, written};
 ghost use Rattle.record.specs.Answers.{refused, found, wrote};
 ghost use Rattle.record.specs.Laws.Scan.{Scanned};
@@ -214,6 +214,25 @@ pub fn check(b: &[u8]) -> Checked
     match h {
         Checked::Refused(k) => Checked::Refused(k),
         Checked::Accepted => scan_says(scan_all(b, count_at(b))),
+    }
+}
+
+// What a record's head says of it.
+pub struct Head {
+    pub count: u32,
+    pub mark: u32,
+}
+
+// The count and the mark of a record, whoever made its bytes.
+pub fn head_of(b: &[u8]) -> Head
+    ensures { λ r. ⌜ (r .count ≡ of-head count-field (now (b .entry))) × (r .mark ≡ of-head mark-field (now (b .entry))) ⌝ }
+{
+    if b.len() < 10 {
+        return Head { count: 0, mark: 0 };
+    }
+    Head {
+        count: two_at(b, 8),
+        mark: two_at(b, 6),
     }
 }
 

@@ -1,0 +1,30 @@
+-- THE INTERFACE'S NUMBERS: what the layers' definitions give, as programs in other languages get it. A refusal is its number, and 0 is none.
+use mathlib.Core.List.{List}
+use mathlib.Core.Option.{Option, some, none}
+use Prim.Native.Nat.{ℕ}
+use lib.IntN.{pos}
+use Rattle.distance.specs.Fix.{Fix}
+use Rattle.record.specs.Format.{trail, count-field, mark-field}
+use Rattle.record.specs.Checks.{read-refusal}
+use Rattle.record.specs.Answers.{Answer, gives, turns-away}
+use Rattle.export.specs.declared.Head.{Head}
+use Rattle.export.specs.declared.Step.{Step}
+use Rattle.export.specs.declared.Answer.{Answer as Numbers}
+
+-- A record's count and mark, unless it is turned away.
+abbrev pub checked : Option ℕ → List ℕ → Head
+checked none b = record { refusal = 0; count = count-field b; mark = mark-field b }
+checked (some k) b = record { refusal = k; count = 0; mark = 0 }
+
+abbrev pub head : List ℕ → Head
+head b = checked (read-refusal trail b) b
+
+-- A fix, if there is one.
+abbrev pub step : Option Fix → Step
+step none = record { found = 0; t = 0; x = pos 0; y = pos 0 }
+step (some f) = record { found = 1; t = f .t; x = f .x; y = f .y }
+
+-- A value, unless there is a refusal.
+abbrev pub answer : Answer ℕ → Numbers
+answer (gives n) = record { refusal = 0; value = n }
+answer (turns-away k) = record { refusal = k; value = 0 }

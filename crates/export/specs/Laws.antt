@@ -1,0 +1,84 @@
+-- The interface's numbers: 0 is no check's number, so that a refusal of 0 is none; and what the functions' arms answer.
+use mathlib.Core.Path.{_≡_, refl, sym, _∙_}
+use mathlib.Core.Bool.{Bool, true, false}
+use mathlib.Core.List.{List}
+use mathlib.Core.Option.{Option, some, none}
+use Prim.Native.Nat.{ℕ, _≤_}
+use native.Mathlib.Omega.{arith}
+use lib.Dec.{ltb}
+use lib.IntN.{ℤ}
+use lib.ListN.{length}
+use borrow.Author.Tests.{ltb-true, ltb-false}
+use Rattle.distance.specs.Fix.{Fix}
+use Rattle.record.specs.Format.{trail, count-field, mark-field, record-length}
+use Rattle.record.specs.Checks.{Check, few-bytes, other-kind, bad-count, bad-length, short-record, bad-mark, misplaced, unordered, long-span, high-tolerance, bad-thousandths, bad-moment, bad-window, bad-box, short-output, number, first, read-refusal}
+use Rattle.record.specs.Reading.{of-head}
+use Rattle.record.specs.Answers.{answer as told}
+use Rattle.record.specs.Writing.{write-refusal, write-answer}
+use Rattle.record.specs.Laws.First.{some-none, stops, FirstHolds, this, not-before, first-exactly}
+use Rattle.record.specs.Laws.Head.{says, few}
+use Rattle.record.specs.Laws.Reading.{of-head-field}
+use Rattle.export.specs.declared.Head.{Head}
+use Rattle.export.specs.declared.Step.{Step}
+use Rattle.export.specs.Interface.{checked, head, step, answer}
+
+-- ---- 0 is none
+counted : (c : Check) → 1 ≤ number c
+counted few-bytes = omega arith
+counted other-kind = omega arith
+counted bad-count = omega arith
+counted bad-length = omega arith
+counted short-record = omega arith
+counted bad-mark = omega arith
+counted misplaced = omega arith
+counted unordered = omega arith
+counted long-span = omega arith
+counted high-tolerance = omega arith
+counted bad-thousandths = omega arith
+counted bad-moment = omega arith
+counted bad-window = omega arith
+counted bad-box = omega arith
+counted short-output = omega arith
+
+holds-counted : {says : Check → Bool} {k : ℕ} {l : List Check} → FirstHolds says k l → 1 ≤ k
+holds-counted (this {c} h e) = let p = counted c in omega arith
+holds-counted (not-before h r) = holds-counted r
+
+pub first-counted : (says : Check → Bool) (l : List Check) (k : ℕ) → first says l ≡ some k → 1 ≤ k
+first-counted says l k h = holds-counted (first-exactly says k l .0 h)
+
+-- A refusal of 0 means that the record is accepted, ..
+pub head-none : (b : List ℕ) → head b .refusal ≡ 0 → read-refusal trail b ≡ none
+head-none b h = go (read-refusal trail b) refl h
+  where
+    go : (o : Option ℕ) → read-refusal trail b ≡ o → checked o b .refusal ≡ 0 → read-refusal trail b ≡ none
+    go none e z = e
+    go (some k) e z = let p = first-counted _ _ k e in absurd (omega arith)
+
+-- .. and that the fixes are written.
+pub answer-none : (l : List Fix) (out : List ℕ) → answer (write-answer trail l out) .refusal ≡ 0 → write-refusal trail l out ≡ none
+answer-none l out h = go (write-refusal trail l out) refl h
+  where
+    go : (o : Option ℕ) → write-refusal trail l out ≡ o → answer (told o (record-length trail (length l))) .refusal ≡ 0 → write-refusal trail l out ≡ none
+    go none e z = e
+    go (some k) e z = let p = first-counted _ _ k e in absurd (omega arith)
+
+-- ---- the reading function
+pub step-found : (f : Fix) (x y : ℤ) (o : Option Fix) → x ≡ f .x → y ≡ f .y → some f ≡ o → _≡_ {A = Step} (record { found = 1; t = f .t; x = x; y = y }) (step o)
+step-found f x y o ex ey h = rw (ex, ey, ← h) refl
+
+-- ---- the checking function
+module _ (b : List ℕ) where
+  -- an accepted record has a whole head
+  ten : read-refusal trail b ≡ none → 10 ≤ length b
+  ten h = go (ltb (length b) 10) refl
+    where
+      go : (t : Bool) → ltb (length b) 10 ≡ t → 10 ≤ length b
+      go true e = absurd (some-none (sym (stops (says b) few-bytes _ (few b (ltb-true _ _ e))) ∙ h))
+      go false e = ltb-false _ _ e
+
+  pub head-refused : (k n : ℕ) → n ≡ k → read-refusal trail b ≡ some k → _≡_ {A = Head} (record { refusal = n; count = 0; mark = 0 }) (head b)
+  head-refused k n e h = rw (h, e) refl
+
+  pub head-accepted : (n m : ℕ) → n ≡ of-head count-field b → m ≡ of-head mark-field b → read-refusal trail b ≡ none → _≡_ {A = Head} (record { refusal = 0; count = n; mark = m }) (head b)
+  head-accepted n m en em h = rw (h, en, em, of-head-field count-field b (ten h), of-head-field mark-field b (ten h)) refl

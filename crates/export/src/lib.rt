@@ -1,0 +1,110 @@
+// The interface for programs in other languages: thin functions over the layers, with numbers for answers. A refusal is its number, and 0 is none.
+// None asks anything of its caller, since nothing would check that. include/trails.h says the same to a C programmer.
+use distance::Centimetres;
+ghost use mathlib.Core.Path.{_≡_};
+ghost use Rattle.record.specs.Format.{trail};
+ghost use Rattle.record.specs.Reading.{yields};
+ghost use Rattle.record.specs.Writing.{columns, write-answer, written};
+ghost use Rattle.export.specs.Interface.{head, step, answer};
+
+// Whether a record was accepted, and then what its head says.
+#[repr(C)]
+pub struct Head {
+    pub refusal: u32,
+    pub count: u32,
+    pub mark: u32,
+}
+
+// A fix, where one was found.
+#[repr(C)]
+pub struct Step {
+    pub found: u32,
+    pub t: u32,
+    pub x: i32,
+    pub y: i32,
+}
+
+// A refusal, or a value.
+#[repr(C)]
+pub struct Answer {
+    pub refusal: u32,
+    pub value: u32,
+}
+
+fn wide(k: u8) -> u32
+    ensures { λ r. ⌜ r ≡ k ⌝ }
+{
+    k as u32
+}
+
+fn whole(c: Centimetres) -> i32
+    ensures { λ r. ⌜ r ≡ c .0 ⌝ }
+{
+    c.0 as i32
+}
+
+// Checks 1 to 9.
+#[no_mangle]
+pub extern "C" fn trails_check(b: &[u8]) -> Head
+    ensures { λ r. ⌜ r ≡ head (now (b .entry)) ⌝ }
+{
+    let c = record::check(b);
+    match c {
+        record::Checked::Refused(k) => Head {
+            refusal: wide(k),
+            count: 0,
+            mark: 0,
+        },
+        record::Checked::Accepted => {
+            let h = record::head_of(b);
+            Head {
+                refusal: 0,
+                count: h.count,
+                mark: h.mark,
+            }
+        },
+    }
+}
+
+// The fix that a reader at this position yields.
+#[no_mangle]
+pub extern "C" fn trails_read(b: &[u8], position: usize) -> Step
+    ensures { λ r. ⌜ r ≡ step (yields trail (now (b .entry)) position) ⌝ }
+{
+    let s = record::read_at(b, position);
+    match s {
+        record::Step::Found(f) => {
+            let t = f.t;
+            Step {
+                found: 1,
+                t: t.0,
+                x: whole(f.x),
+                y: whole(f.y),
+            }
+        },
+        record::Step::NoneLeft => Step {
+            found: 0,
+            t: 0,
+            x: 0,
+            y: 0,
+        },
+    }
+}
+
+// The record of the fixes whose times and coordinates the three columns have.
+#[no_mangle]
+pub extern "C" fn trails_write(t: &[u32], x: &[i16], y: &[i16], out: &mut [u8]) -> Answer
+    ensures { λ r. ⌜ (r ≡ answer (write-answer trail (columns (now (t .entry)) (now (x .entry)) (now (y .entry))) (now (out .entry)))) × (now (out .exit) ≡ written trail (columns (now (t .entry)) (now (x .entry)) (now (y .entry))) (now (out .entry))) ⌝ }
+{
+    let w = record::write(t, x, y, out);
+    match w {
+        record::Written::Length(n) => Answer {
+            refusal: 0,
+            value: n,
+        },
+        record::Written::Refused(k) => Answer {
+            refusal: wide(k),
+            value: 0,
+        },
+    }
+}

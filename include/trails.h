@@ -1,0 +1,108 @@
+/* Cart trails, for C.
+ *
+ * Link with libexport.a. The functions allocate nothing, keep nothing between
+ * calls, and may be called from several threads at once as long as no buffer
+ * that one of them writes is lent to another at the same time.
+ *
+ * A buffer is a pointer and the number of its elements. The pointer isn't null
+ * and is aligned for its elements, even where the number is 0; all the elements
+ * may be read, those of an output written too; and an output overlaps no other
+ * buffer of the same call. Besides that a function asks nothing: every content
+ * and every length has an answer, which this page gives.
+ *
+ * THE RECORD. Numbers are little-endian.
+ *
+ *   bytes   what
+ *   0..3    length of the whole record, 10 + 8 times the count
+ *   4..5    kind, 1
+ *   6..7    mark: greatest tolerance applied so far, in centimetres,
+ *           or 65,535 for a trail that was never thinned
+ *   8..9    count of fixes, 1 to 4,096
+ *   10..    for each fix 8 bytes: time (4, unsigned), x (2), y (2, both in
+ *           two's complement)
+ *
+ * Times are in seconds, places in centimetres. A buffer may go on after the
+ * record; those bytes are ignored by every reader and kept by every writer.
+ *
+ * REFUSALS. A refusal is one of the numbers below, and 0 is none. A call makes
+ * its checks in this order, each over the whole record before the next, and
+ * answers the first that fails. A refused call leaves all buffers as they were.
+ */
+#ifndef TRAILS_H
+#define TRAILS_H
+
+#include <stddef.h>
+#include <stdint.h>
+
+#ifdef __cplusplus
+extern "C" {
+#endif
+
+enum {
+    TRAILS_ACCEPTED = 0,      /* not refused */
+    TRAILS_FEW_BYTES = 1,     /* fewer than 10 bytes are lent */
+    TRAILS_OTHER_KIND = 2,    /* the kind isn't 1 */
+    TRAILS_BAD_COUNT = 3,     /* no fix, or more than 4,096 */
+    TRAILS_BAD_LENGTH = 4,    /* the length field isn't 10 + 8 * count */
+    TRAILS_SHORT_RECORD = 5,  /* fewer bytes are lent than the length field says */
+    TRAILS_BAD_MARK = 6,      /* the mark is 32,001 to 65,534 */
+    TRAILS_MISPLACED = 7,     /* an x or a y below -16,000 or above 16,000 */
+    TRAILS_UNORDERED = 8,     /* a fix's time isn't later than the time before */
+    TRAILS_LONG_SPAN = 9,     /* more than 65,535 seconds from first to last fix */
+    TRAILS_SHORT_OUTPUT = 15  /* the output has fewer than 10 + 8 * count bytes */
+};
+
+/* The mark of a trail that was never thinned. */
+#define TRAILS_NEVER 65535u
+
+/* The most bytes that a record has. */
+#define TRAILS_LONGEST 32778u
+
+/* What a record's head says. Where refusal isn't 0, count and mark are 0. */
+struct trails_head {
+    uint32_t refusal;
+    uint32_t count;
+    uint32_t mark;
+};
+
+/* found is 1 and the fix follows, or everything is 0: none is left. */
+struct trails_step {
+    uint32_t found;
+    uint32_t t; /* seconds */
+    int32_t x;  /* centimetres */
+    int32_t y;
+};
+
+/* A refusal, or a value. Where refusal isn't 0, value is 0. */
+struct trails_answer {
+    uint32_t refusal;
+    uint32_t value;
+};
+
+/* Whether the lent bytes begin with a record. Makes checks 1 to 9; where none
+ * fails, refusal is 0, and count and mark are the record's. */
+struct trails_head trails_check(const uint8_t *record, size_t lent);
+
+/* The fix at a position, counted from 0. Of a record that trails_check accepts,
+ * positions 0 to count - 1 have one, and at each later position none is left.
+ * It makes no check: of other bytes it tells what would stand there if they were
+ * a record, at positions below the count field whose 8 bytes are all lent, and
+ * that none is left at all others. So call trails_check first. */
+struct trails_step trails_read(const uint8_t *record, size_t lent, size_t position);
+
+/* Writes the record of a list of fixes, marked never thinned. Fix k of the list
+ * is t[k], x[k], y[k]; the list is as long as the shortest of the three columns.
+ * Makes checks 3, 7, 8, 9 and 15, in this order. Where none fails, value is the
+ * record's length, the first value bytes of the output are the record, and its
+ * later bytes are as before. The output may be of any length; a record of n
+ * fixes needs 10 + 8 * n bytes. */
+struct trails_answer trails_write(const uint32_t *t, size_t t_count,
+                                  const int16_t *x, size_t x_count,
+                                  const int16_t *y, size_t y_count,
+                                  uint8_t *output, size_t output_bytes);
+
+#ifdef __cplusplus
+}
+#endif
+
+#endif

@@ -1,0 +1,68 @@
+//! The functions of `include/trails.h`, for safe Rust. This is the only module with `unsafe`.
+#![allow(unsafe_code)]
+
+#[repr(C)]
+#[derive(Clone, Copy, Debug, PartialEq, Eq)]
+pub struct Head {
+    pub refusal: u32,
+    pub count: u32,
+    pub mark: u32,
+}
+
+#[repr(C)]
+#[derive(Clone, Copy, Debug, PartialEq, Eq)]
+pub struct Step {
+    pub found: u32,
+    pub t: u32,
+    pub x: i32,
+    pub y: i32,
+}
+
+#[repr(C)]
+#[derive(Clone, Copy, Debug, PartialEq, Eq)]
+pub struct Answer {
+    pub refusal: u32,
+    pub value: u32,
+}
+
+extern "C" {
+    fn trails_check(record: *const u8, lent: usize) -> Head;
+    fn trails_read(record: *const u8, lent: usize, position: usize) -> Step;
+    fn trails_write(
+        t: *const u32,
+        t_count: usize,
+        x: *const i16,
+        x_count: usize,
+        y: *const i16,
+        y_count: usize,
+        output: *mut u8,
+        output_bytes: usize,
+    ) -> Answer;
+}
+
+// Each call below is sound for the same reason: a slice's pointer isn't null, is aligned, and reaches as many
+// elements as its length says; the borrow checker keeps the one `&mut` slice apart from the others; and the
+// functions ask nothing else.
+
+pub fn check(record: &[u8]) -> Head {
+    unsafe { trails_check(record.as_ptr(), record.len()) }
+}
+
+pub fn read(record: &[u8], position: usize) -> Step {
+    unsafe { trails_read(record.as_ptr(), record.len(), position) }
+}
+
+pub fn write(t: &[u32], x: &[i16], y: &[i16], output: &mut [u8]) -> Answer {
+    unsafe {
+        trails_write(
+            t.as_ptr(),
+            t.len(),
+            x.as_ptr(),
+            x.len(),
+            y.as_ptr(),
+            y.len(),
+            output.as_mut_ptr(),
+            output.len(),
+        )
+    }
+}
