@@ -14,7 +14,7 @@ use Rattle.distance.specs.Distance.{seconds}
 use Rattle.distance.specs.Box.{Box}
 use Rattle.record.specs.Format.{Kind, never, length-field, kind-field, mark-field, count-field, record-length, fixes}
 
--- ---- what a call is handed. Of the last part a call fills in what it takes; no check that it makes looks at the rest (`reading-alone` of Laws/First.antt).
+-- ---- what a call is handed. Of the last part a call fills in what it takes; no check that it makes looks at the rest (`reading-alone` and the laws beside it in Laws/First.antt).
 pub record Given : Type 0 where
   -- "The asked tolerance"
   pub tolerance : ℕ

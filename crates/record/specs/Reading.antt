@@ -13,7 +13,7 @@ unfoldable pub of-head : (List ℕ → ℕ) → List ℕ → ℕ
 of-head field b = cond (ltb (length b) 10) 0 (field b)
 
 -- A fix stands at position k: the count says so, and the lent bytes hold it. Of an accepted record the first suffices (`yields-fix` of
--- Laws/Reading.antt); bytes or a position of somebody's own making are read no further than they go.
+-- Laws/Accepted.antt); bytes or a position of somebody's own making are read no further than they go.
 unfoldable pub stands : Kind → List ℕ → ℕ → Bool
 stands K b k = ltb k (count-field b) && leb (record-length K (suc k)) (length b)
 

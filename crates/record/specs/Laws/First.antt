@@ -7,7 +7,7 @@ use mathlib.Core.Option.{some, none}
 use Prim.Native.Nat.{ℕ}
 use native.Mathlib.Omega.{arith}
 use Rattle.record.specs.Format.{Kind}
-use Rattle.record.specs.Checks.{Check, Given, number, first, sentence, asked-of, refusal, reading, read-refusal}
+use Rattle.record.specs.Checks.{Check, Given, Asked, number, first, sentence, asked-of, refusal, reading, writing, aging, aging-by-days, placing, crossing, read-refusal}
 
 pub some-none : {k : ℕ} → some k ≡ none → ⊥
 some-none e = let z : _≡_ {A = ℕ} 0 1 = cc in omega arith
@@ -92,7 +92,27 @@ module _ (says : Check → Bool) where
       go true e h r = absurd (some-none h)
       go false e h r = and-not e (r h)
 
--- what a reader says does not hang on the rest of what a call is handed
+-- ---- a call's refusal does not hang on what the call does not take
 pub reading-alone : (K : Kind) (b : List ℕ) (g : Given) → refusal K reading (asked-of K b g) ≡ read-refusal K b
 unfolding first sentence
 reading-alone K b g = refl
+
+pub days-alone : (K : Kind) (b : List ℕ) (g : Given) → refusal K aging-by-days (asked-of K b g) ≡ read-refusal K b
+unfolding first sentence
+days-alone K b g = refl
+
+pub aging-alone : (K : Kind) (b : List ℕ) (g h : Given) → g .tolerance ≡ h .tolerance → refusal K aging (asked-of K b g) ≡ refusal K aging (asked-of K b h)
+unfolding first sentence
+aging-alone K b g h e = rw e refl
+
+pub placing-alone : (K : Kind) (b : List ℕ) (g h : Given) → g .second ≡ h .second → g .thousandths ≡ h .thousandths → refusal K placing (asked-of K b g) ≡ refusal K placing (asked-of K b h)
+unfolding first sentence
+placing-alone K b g h e f = rw (e, f) refl
+
+pub crossing-alone : (K : Kind) (b : List ℕ) (g h : Given) → g .start ≡ h .start → g .end ≡ h .end → g .box ≡ h .box → refusal K crossing (asked-of K b g) ≡ refusal K crossing (asked-of K b h)
+unfolding first sentence
+crossing-alone K b g h e f k = rw (e, f, k) refl
+
+pub writing-alone : (K : Kind) (p q : Asked) → p .count ≡ q .count → p .trail-fixes ≡ q .trail-fixes → p .given .output ≡ q .given .output → refusal K writing p ≡ refusal K writing q
+unfolding first sentence
+writing-alone K p q e f g = rw (e, f, g) refl
