@@ -16,14 +16,16 @@ pub enum Call {
 impl Call {
     /// Any call: small tolerances and the limits are likelier than others, and some are refused.
     pub fn any(random: &mut Random) -> Call {
+        let least = random.between(0, 12) as u16;
         let low = random.between(0, 300) as u16;
+        let high = random.between(0, 20_000) as u16;
         let any = random.between(0, 65_535) as u16;
-        let edges = [0, 1, 2, 12, 25, 32_000, 32_001, 65_535];
-        let edge = random.pick(&edges);
+        let edge = random.pick(&[0, 1, 32_000, 32_001, 65_535]);
         let days = random.pick(&[0, 1, 2, 6, 7, 29, 30, 89, 90, 65_535]);
         random.pick(&[
+            Call::Tolerance(least),
             Call::Tolerance(low),
-            Call::Tolerance(low),
+            Call::Tolerance(high),
             Call::Tolerance(edge),
             Call::Tolerance(any),
             Call::Days(days),
