@@ -115,8 +115,10 @@ struct trails_answer trails_write(const uint32_t *t, size_t t_count,
  *   - the kind, and all bytes from the new length on, are as before the call;
  *   - value is how many inner fixes were measured, one for each in each span: at
  *     most (count - 1) * (count - 2) / 2 of the count before.
- * Where a check fails, no byte is changed. The call's own marks take 4,096 bytes
- * of the stack, and it calls itself at most 4,095 deep. */
+ * Where a check fails, no byte is changed.
+ * STACK. The call has 4,096 bytes of marks, and calls itself one level deeper for
+ * each split in a split, at most 4,095 levels: of a record with count fixes about
+ * 5,000 + 144 * count bytes on x86-64, so 600,000 at most. */
 struct trails_answer trails_age(uint8_t *record, size_t lent, uint16_t tolerance);
 
 /* Ages the record by days. Makes checks 1 to 9. Where none fails, it does what

@@ -13,7 +13,7 @@ impl Settings {
     pub fn get() -> Settings {
         Settings {
             seed: number("TRAILS_SEED", 20_240_229),
-            cases: number("TRAILS_CASES", 3_000) as usize,
+            cases: number("TRAILS_CASES", 10_000) as usize,
         }
     }
 }
