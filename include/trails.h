@@ -39,17 +39,18 @@ extern "C" {
 #endif
 
 enum {
-    TRAILS_ACCEPTED = 0,      /* not refused */
-    TRAILS_FEW_BYTES = 1,     /* fewer than 10 bytes are lent */
-    TRAILS_OTHER_KIND = 2,    /* the kind isn't 1 */
-    TRAILS_BAD_COUNT = 3,     /* no fix, or more than 4,096 */
-    TRAILS_BAD_LENGTH = 4,    /* the length field isn't 10 + 8 * count */
-    TRAILS_SHORT_RECORD = 5,  /* fewer bytes are lent than the length field says */
-    TRAILS_BAD_MARK = 6,      /* the mark is 32,001 to 65,534 */
-    TRAILS_MISPLACED = 7,     /* an x or a y below -16,000 or above 16,000 */
-    TRAILS_UNORDERED = 8,     /* a fix's time isn't later than the time before */
-    TRAILS_LONG_SPAN = 9,     /* more than 65,535 seconds from first to last fix */
-    TRAILS_SHORT_OUTPUT = 15  /* the output has fewer than 10 + 8 * count bytes */
+    TRAILS_ACCEPTED = 0,        /* not refused */
+    TRAILS_FEW_BYTES = 1,       /* fewer than 10 bytes are lent */
+    TRAILS_OTHER_KIND = 2,      /* the kind isn't 1 */
+    TRAILS_BAD_COUNT = 3,       /* no fix, or more than 4,096 */
+    TRAILS_BAD_LENGTH = 4,      /* the length field isn't 10 + 8 * count */
+    TRAILS_SHORT_RECORD = 5,    /* fewer bytes are lent than the length field says */
+    TRAILS_BAD_MARK = 6,        /* the mark is 32,001 to 65,534 */
+    TRAILS_MISPLACED = 7,       /* an x or a y below -16,000 or above 16,000 */
+    TRAILS_UNORDERED = 8,       /* a fix's time isn't later than the time before */
+    TRAILS_LONG_SPAN = 9,       /* more than 65,535 seconds from first to last fix */
+    TRAILS_HIGH_TOLERANCE = 10, /* the asked tolerance is above 32,000 */
+    TRAILS_SHORT_OUTPUT = 15    /* the output has fewer than 10 + 8 * count bytes */
 };
 
 /* The mark of a trail that was never thinned. */
@@ -100,6 +101,38 @@ struct trails_answer trails_write(const uint32_t *t, size_t t_count,
                                   const int16_t *x, size_t x_count,
                                   const int16_t *y, size_t y_count,
                                   uint8_t *output, size_t output_bytes);
+
+/* Ages the record by tolerance, in centimetres. A shift's first thinning and
+ * each later one are this same call. Makes checks 1 to 10. Where none fails, the
+ * record's fixes are thinned at the tolerance by Douglas-Peucker: of a span every
+ * inner fix is measured from where the straight line in time between the span's
+ * two ends has the cart at that fix's second; where all are at most the tolerance
+ * away only the ends stay, and else the span is split at the furthest, the
+ * earliest of equals, and both pieces are treated the same. Then
+ *   - the kept fixes close up at the record's start, and length and count follow;
+ *   - the mark becomes the tolerance if it was TRAILS_NEVER, and else the greater
+ *     of the two, whoever wrote it;
+ *   - the kind, and all bytes from the new length on, are as before the call;
+ *   - value is how many inner fixes were measured, one for each in each span: at
+ *     most (count - 1) * (count - 2) / 2 of the count before.
+ * Where a check fails, no byte is changed.
+ * STACK. The call has 4,096 bytes of marks, and calls itself one level deeper for
+ * each split in a split, at most 4,095 levels: of a record with count fixes about
+ * 5,000 + 144 * count bytes on x86-64, so 600,000 at most. */
+struct trails_answer trails_age(uint8_t *record, size_t lent, uint16_t tolerance);
+
+/* Ages the record by days. Makes checks 1 to 9. Where none fails, it does what
+ * trails_age does at the tolerance of this table:
+ *
+ *   days        tolerance
+ *   0 and 1     none: no byte is changed, and value is 0
+ *   2 to 6      10
+ *   7 to 29     25
+ *   30 to 89    100
+ *   from 90     400
+ *
+ * Where a check fails, no byte is changed. */
+struct trails_answer trails_age_by_days(uint8_t *record, size_t lent, uint16_t days);
 
 #ifdef __cplusplus
 }

@@ -13,7 +13,7 @@ impl Settings {
     pub fn get() -> Settings {
         Settings {
             seed: number("TRAILS_SEED", 20_240_229),
-            cases: number("TRAILS_CASES", 3_000) as usize,
+            cases: number("TRAILS_CASES", 10_000) as usize,
         }
     }
 }
@@ -62,7 +62,7 @@ impl Random {
 
 /// A time for each of n fixes: rising, and at most 65,535 seconds from first to last. One list in three has
 /// exactly that span; some begin at 0, and some end at the last second that 32 bits hold.
-fn times(random: &mut Random, n: usize) -> Vec<u32> {
+pub fn times(random: &mut Random, n: usize) -> Vec<u32> {
     let legs = n as i64 - 1;
     let whole = random.one_in(3);
     let mut offsets = vec![0];
@@ -161,14 +161,8 @@ pub struct Draft {
 
 impl Draft {
     pub fn new(fixes: Vec<Fix>, mark: u16, tail: Vec<u8>) -> Draft {
-        let head = Head {
-            length: record_length(fixes.len()) as u32,
-            kind: 1,
-            mark,
-            count: fixes.len() as u16,
-        };
         Draft {
-            head,
+            head: Head::of(mark, fixes.len()),
             fixes,
             tail,
             lent: None,

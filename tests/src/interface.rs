@@ -25,6 +25,19 @@ pub struct Answer {
     pub value: u32,
 }
 
+/// What the plain version answers, as the interface puts it.
+impl From<Result<u32, u8>> for Answer {
+    fn from(result: Result<u32, u8>) -> Answer {
+        match result {
+            Ok(value) => Answer { refusal: 0, value },
+            Err(number) => Answer {
+                refusal: number.into(),
+                value: 0,
+            },
+        }
+    }
+}
+
 extern "C" {
     fn trails_check(record: *const u8, lent: usize) -> Head;
     fn trails_read(record: *const u8, lent: usize, position: usize) -> Step;
@@ -38,6 +51,8 @@ extern "C" {
         output: *mut u8,
         output_bytes: usize,
     ) -> Answer;
+    fn trails_age(record: *mut u8, lent: usize, tolerance: u16) -> Answer;
+    fn trails_age_by_days(record: *mut u8, lent: usize, days: u16) -> Answer;
 }
 
 // Each call below is sound for the same reason: a slice's pointer isn't null, is aligned, and reaches as many
@@ -65,4 +80,12 @@ pub fn write(t: &[u32], x: &[i16], y: &[i16], output: &mut [u8]) -> Answer {
             output.len(),
         )
     }
+}
+
+pub fn age(record: &mut [u8], tolerance: u16) -> Answer {
+    unsafe { trails_age(record.as_mut_ptr(), record.len(), tolerance) }
+}
+
+pub fn age_by_days(record: &mut [u8], days: u16) -> Answer {
+    unsafe { trails_age_by_days(record.as_mut_ptr(), record.len(), days) }
 }

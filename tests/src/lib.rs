@@ -5,6 +5,8 @@
 //! hand the numbers over unharmed.
 #![deny(unsafe_code)]
 
+pub mod agings;
 pub mod cases;
 pub mod interface;
 pub mod plain;
+pub mod shapes;

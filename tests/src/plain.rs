@@ -1,7 +1,11 @@
-//! A plain version of the trail record: its checks, reader, writer and listing.
+//! A plain version of document 01: the trail record with its checks, reader, writer and listing here, thinning and
+//! aging in `thinning`, and places at fractional times in `place`.
 //!
-//! It is written from document 01 and follows its sentences one by one. It takes nothing from the proved code, so
-//! that a misreading there would show as a difference here.
+//! It follows document 01's sentences one by one. It takes nothing from the proved code, so that a misreading there
+//! would show as a difference here.
+
+pub mod place;
+pub mod thinning;
 
 /// The mark of a trail that was never thinned.
 pub const NEVER: u16 = 65_535;
@@ -52,6 +56,16 @@ fn four(bytes: &[u8], at: usize) -> u32 {
 }
 
 impl Head {
+    /// The head of a record of so many fixes.
+    pub fn of(mark: u16, count: usize) -> Head {
+        Head {
+            length: record_length(count) as u32,
+            kind: 1,
+            mark,
+            count: count as u16,
+        }
+    }
+
     fn decode(bytes: &[u8]) -> Option<Head> {
         (bytes.len() >= HEAD).then(|| Head {
             length: four(bytes, 0),
@@ -143,12 +157,7 @@ pub fn write(fixes: &[Fix], output: &mut [u8]) -> Result<usize, u8> {
     refuse_if(3, bad_count(fixes.len()))?;
     check_fixes(fixes)?;
     refuse_if(15, output.len() < length)?;
-    let head = Head {
-        length: length as u32,
-        kind: 1,
-        mark: NEVER,
-        count: fixes.len() as u16,
-    };
+    let head = Head::of(NEVER, fixes.len());
     output[..length].copy_from_slice(&encode(head, fixes));
     Ok(length)
 }

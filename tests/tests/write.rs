@@ -27,12 +27,9 @@ fn write(list: &[Fix], before: &[u8]) -> Written {
 
 fn plain_write(list: &[Fix], before: &[u8]) -> Written {
     let mut output = before.to_vec();
-    let (refusal, value) = match plain::write(list, &mut output) {
-        Ok(length) => (0, length as u32),
-        Err(number) => (number.into(), 0),
-    };
+    let length = plain::write(list, &mut output).map(|length| length as u32);
     Written {
-        answer: Answer { refusal, value },
+        answer: length.into(),
         output,
     }
 }

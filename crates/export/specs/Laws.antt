@@ -18,6 +18,7 @@ use Rattle.record.specs.Writing.{write-refusal, write-answer}
 use Rattle.record.specs.Laws.First.{some-none, stops, FirstHolds, this, not-before, first-exactly}
 use Rattle.record.specs.Laws.Head.{says, few}
 use Rattle.record.specs.Laws.Reading.{of-head-field}
+use Rattle.thinning.specs.Aging.{age-refusal, age-answer, days-refusal, days-answer}
 use Rattle.export.specs.declared.Head.{Head}
 use Rattle.export.specs.declared.Step.{Step}
 use Rattle.export.specs.Interface.{checked, head, step, answer}
@@ -55,13 +56,24 @@ head-none b h = go (read-refusal trail b) refl h
     go none e z = e
     go (some k) e z = let p = first-counted _ _ k e in absurd (omega arith)
 
--- .. and that the fixes are written.
-pub answer-none : (l : List Fix) (out : List ℕ) → answer (write-answer trail l out) .refusal ≡ 0 → write-refusal trail l out ≡ none
-answer-none l out h = go (write-refusal trail l out) refl h
+-- .. and of an answer that the operation made none of its refusals: ..
+answer-none : (says : Check → Bool) (l : List Check) (n : ℕ) → answer (told (first says l) n) .refusal ≡ 0 → first says l ≡ none
+answer-none says l n h = go (first says l) refl h
   where
-    go : (o : Option ℕ) → write-refusal trail l out ≡ o → answer (told o (record-length trail (length l))) .refusal ≡ 0 → write-refusal trail l out ≡ none
+    go : (o : Option ℕ) → first says l ≡ o → answer (told o n) .refusal ≡ 0 → first says l ≡ none
     go none e z = e
-    go (some k) e z = let p = first-counted _ _ k e in absurd (omega arith)
+    go (some k) e z = let p = first-counted says l k e in absurd (omega arith)
+
+-- .. the fixes are written, ..
+pub written-none : (l : List Fix) (out : List ℕ) → answer (write-answer trail l out) .refusal ≡ 0 → write-refusal trail l out ≡ none
+written-none l out h = answer-none _ _ _ h
+
+-- .. the record is aged, by tolerance or by days.
+pub aged-none : (b : List ℕ) (e : ℕ) → answer (age-answer b e) .refusal ≡ 0 → age-refusal b e ≡ none
+aged-none b e h = answer-none _ _ _ h
+
+pub days-none : (b : List ℕ) (days : ℕ) → answer (days-answer b days) .refusal ≡ 0 → days-refusal b ≡ none
+days-none b days h = answer-none _ _ _ h
 
 -- ---- the reading function
 pub step-found : (f : Fix) (x y : ℤ) (o : Option Fix) → x ≡ f .x → y ≡ f .y → some f ≡ o → _≡_ {A = Step} (record { found = 1; t = f .t; x = x; y = y }) (step o)

@@ -1,10 +1,15 @@
 // The interface for programs in other languages: thin functions over the layers, with numbers for answers. A refusal is its number, and 0 is none.
 // None asks anything of its caller, since nothing would check that. include/trails.h says the same to a C programmer.
 use distance::Centimetres;
+use distance::Tolerance;
+use thinning::Aged;
+use thinning::Days;
 ghost use mathlib.Core.Path.{_≡_};
 ghost use Rattle.record.specs.Format.{trail};
 ghost use Rattle.record.specs.Reading.{yields};
 ghost use Rattle.record.specs.Writing.{columns, write-answer, written};
+ghost use Rattle.thinning.specs.Answers.{counted};
+ghost use Rattle.thinning.specs.Aging.{age-answer, aged, days-answer, aged-by-days};
 ghost use Rattle.export.specs.Interface.{head, step, answer};
 
 // Whether a record was accepted, and then what its head says.
@@ -107,4 +112,38 @@ pub extern "C" fn trails_write(t: &[u32], x: &[i16], y: &[i16], out: &mut [u8]) 
             value: 0,
         },
     }
+}
+
+// What an aging answers, as numbers.
+fn count_of(a: Aged) -> Answer
+    ensures { λ r. ⌜ r ≡ answer (counted a) ⌝ }
+{
+    match a {
+        Aged::Count(measured) => Answer {
+            refusal: 0,
+            value: measured,
+        },
+        Aged::Refused(k) => Answer {
+            refusal: wide(k),
+            value: 0,
+        },
+    }
+}
+
+// Ages the record at the start of the buffer by tolerance.
+#[no_mangle]
+pub extern "C" fn trails_age(b: &mut [u8], tolerance: u16) -> Answer
+    ensures { λ r. ⌜ (r ≡ answer (age-answer (now (b .entry)) tolerance)) × (now (b .exit) ≡ aged (now (b .entry)) tolerance) ⌝ }
+{
+    let a = thinning::age(b, Tolerance(tolerance));
+    count_of(a)
+}
+
+// Ages the record at the start of the buffer by days.
+#[no_mangle]
+pub extern "C" fn trails_age_by_days(b: &mut [u8], days: u16) -> Answer
+    ensures { λ r. ⌜ (r ≡ answer (days-answer (now (b .entry)) days)) × (now (b .exit) ≡ aged-by-days (now (b .entry)) days) ⌝ }
+{
+    let a = thinning::age_by_days(b, Days(days));
+    count_of(a)
 }

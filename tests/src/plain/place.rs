@@ -1,0 +1,64 @@
+//! Where a trail has its cart at a fractional time, and whether two places are near. Nothing is divided, so nothing
+//! is rounded.
+
+use super::Fix;
+
+/// The most that the denominator of a time may be here: then every product below stays within 128 bits.
+pub const FINEST: i128 = 250;
+
+/// p/q seconds, with q from 1 to FINEST.
+#[derive(Clone, Copy, Debug)]
+pub struct Time {
+    pub p: i128,
+    pub q: i128,
+}
+
+/// The place (x/d, y/d), with d at least 1.
+#[derive(Clone, Copy, Debug)]
+pub struct Place {
+    x: i128,
+    y: i128,
+    d: i128,
+}
+
+impl Place {
+    fn of(fix: Fix) -> Place {
+        Place {
+            x: fix.x.into(),
+            y: fix.y.into(),
+            d: 1,
+        }
+    }
+
+    /// The interpolated place on the leg from i to j.
+    fn between(i: Fix, j: Fix, time: Time) -> Place {
+        let seconds = i128::from(j.t) - i128::from(i.t);
+        let since = time.p - time.q * i128::from(i.t);
+        let d = time.q * seconds;
+        let axis = |i: i16, j: i16| {
+            let (i, j) = (i128::from(i), i128::from(j));
+            i * d + (j - i) * since
+        };
+        Place {
+            x: axis(i.x, j.x),
+            y: axis(i.y, j.y),
+            d,
+        }
+    }
+
+    /// A trail's place at a time from its first fix to its last.
+    pub fn at(fixes: &[Fix], time: Time) -> Place {
+        match fixes.partition_point(|fix| time.q * i128::from(fix.t) < time.p) {
+            0 => Place::of(fixes[0]),
+            end => Place::between(fixes[end - 1], fixes[end], time),
+        }
+    }
+
+    /// "Two places are at most E apart if the squares of their differences in x and in y add up to at most E²."
+    pub fn near(&self, other: &Place, e: u16) -> bool {
+        let x = self.x * other.d - other.x * self.d;
+        let y = self.y * other.d - other.y * self.d;
+        let reach = i128::from(e) * self.d * other.d;
+        x * x + y * y <= reach * reach
+    }
+}
