@@ -177,7 +177,7 @@ fn head_says(b: &[u8]) -> Checked
 }
 
 // How many fixes the record's head says there are.
-fn count_at(b: &[u8]) -> usize
+pub fn count_at(b: &[u8]) -> usize
     requires { ⌜ 10 ≤ length (now b) ⌝ }
     ensures { λ r. ⌜ (r ≡ count-field (now (b .entry))) × (r < 65536) ⌝ }
 {

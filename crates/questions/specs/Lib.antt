@@ -1,0 +1,8 @@
+-- What a reader must believe:
+pub mod Rounding
+pub mod Moment
+pub mod Answers
+-- the worked trails, computed on those definitions:
+pub mod Worked
+-- and what engineers prove of them:
+pub mod Laws
