@@ -5,3 +5,8 @@ pub mod Trail
 pub mod Placing
 pub mod Ranges
 pub mod Walk
+pub mod Times
+pub mod Axis
+pub mod Legs
+pub mod Crossing
+pub mod Moved
