@@ -10,3 +10,5 @@ pub mod Axis
 pub mod Legs
 pub mod Crossing
 pub mod Moved
+pub mod Search
+pub mod Checking

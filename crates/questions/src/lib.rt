@@ -1,6 +1,8 @@
 // The questions layer: where a trail is at a moment, and when it crosses a box.
+mod crossing;
 mod moment;
 
+pub use crossing::crosses;
 use distance::Centimetres;
 use distance::Duration;
 use distance::Seconds;

@@ -1,10 +1,11 @@
 -- One axis of a leg: the times at which it is between the edges.
-use mathlib.Core.Path.{_≡_}
+use mathlib.Core.Path.{_≡_, refl}
 use mathlib.Core.Logic.{_↔_}
 use mathlib.Core.Bool.{Bool, cond}
 use Prim.Native.Nat.{ℕ, suc, _+_, _*_, _-_, _≤_, _<_}
 use native.Mathlib.Nat.{mul-le-mul-right, mul-le-mul-left, mul-le-mul, mul-sub}
 use native.Mathlib.Omega.{arith}
+use borrow.Author.Tests.{lt-ltb, le-ltb}
 use Rattle.distance.specs.Place.{Time}
 use Rattle.distance.specs.Integers.Tests.{Test, holds, fails, test}
 use Rattle.questions.specs.Legs.{times, no-times, moving, axis-times}
@@ -153,3 +154,29 @@ rest-cut A a low high = go (test (suc a) a) (test (suc high) a) (test (suc a) lo
       only = (λ u o w. record { from = omega (arith, o .from); until = omega (arith, o .to) });
       all = (λ u o w. record { above = omega arith; below = omega arith });
     }
+
+-- ---- the cases, computed
+module _ (A D a b low high : ℕ) where
+  pub axis-leaving-up : a < b → high < a → axis-times A D a b low high ≡ no-times
+  unfolding axis-times
+  axis-leaving-up h k = rw (lt-ltb a b h, lt-ltb high a k) refl
+
+  pub axis-up : a < b → a ≤ high → axis-times A D a b low high ≡ moving A D (b - a) (low - a) (high - a)
+  unfolding axis-times
+  axis-up h k = rw (lt-ltb a b h, le-ltb high a k) refl
+
+  pub axis-leaving-down : b ≤ a → a < low → axis-times A D a b low high ≡ no-times
+  unfolding axis-times
+  axis-leaving-down h k = rw (le-ltb a b h, lt-ltb a low k) refl
+
+  pub axis-down : b < a → low ≤ a → axis-times A D a b low high ≡ moving A D (a - b) (a - high) (a - low)
+  unfolding axis-times
+  axis-down h k = rw (le-ltb a b (omega arith), le-ltb a low k, lt-ltb b a h) refl
+
+  pub axis-outside : b ≤ a → a ≤ b → low ≤ a → high < a → axis-times A D a b low high ≡ no-times
+  unfolding axis-times
+  axis-outside h k l m = rw (le-ltb a b h, le-ltb a low l, le-ltb b a k, lt-ltb high a m) refl
+
+  pub axis-rest : b ≤ a → a ≤ b → low ≤ a → a ≤ high → axis-times A D a b low high ≡ times A (A + D) 1
+  unfolding axis-times
+  axis-rest h k l m = rw (le-ltb a b h, le-ltb a low l, le-ltb b a k, le-ltb high a m) refl

@@ -7,7 +7,7 @@ use native.Mathlib.Nat.{div-lt-iff-lt-mul}
 use native.Mathlib.Omega.{arith}
 use lib.IntN.{ℤ, pos, negsuc, natAbs, negℤ, _+ℤ_, _-ℤ_, _*ℤ_}
 use lib.Dec.{T}
-use lib.Signed.{_≤ℤ_, ltZ, nonNeg}
+use lib.Signed.{_≤ℤ_, ltZ, nonNeg, yes-nonNeg}
 use mir.Syntax.{w16, w32, w64}
 use mir.Val.{Fits, SFits, toZ}
 use mir.Facts.{toZ-ofZ, toZ-pos}
@@ -16,7 +16,7 @@ use Rattle.distance.specs.Distance.{seconds}
 use Rattle.distance.specs.Place.{leg, interpolated}
 use Rattle.distance.specs.Integers.Differences.{diffs, natAbs-add, natAbs-mul}
 use Rattle.distance.specs.Integers.Order.{gap, nat, le-by, _⊞_, _⊠_, ltZ-false, zero-le, pos-le}
-use Rattle.distance.specs.Integers.Ring.{ring, quotes, lit, vars}
+use Rattle.distance.specs.Integers.Ring.{ring, quotes, lit, litN, vars}
 use Rattle.record.specs.Laws.Numbers.{false-true}
 use Rattle.distance.specs.Integers.Bounds.{Bound, _⊕_, _⊝_, _⊛_, of-width, fits}
 use Rattle.record.specs.Format.{trail, fix-at, count-field}
@@ -25,6 +25,7 @@ use Rattle.questions.specs.Rounding.{floored, rounded}
 use Rattle.questions.specs.Moment.{Standing, beside}
 use Rattle.questions.specs.Laws.Moment.{instant}
 use Rattle.questions.specs.Laws.Trail.{Leg}
+use Rattle.questions.specs.Laws.Legs.{Near}
 
 -- z/d cut down to a whole number fits 16 bits
 pub record Short (z : ℤ) (d : ℕ) : Type 0 where
@@ -204,3 +205,29 @@ pub record AloneFits (z : ℤ) : Type 0 where
 
 pub alone-fits : {z : ℤ} → SFits w16 z → AloneFits z
 alone-fits f = record { z16 = f; z64 = fits w64 (of-width w16 f) tt }
+
+-- ---- a place counted from −16,000 on
+pub record CountedFits (z : ℤ) : Type 0 where
+  pub z32 : SFits w32 z
+  pub sum : SFits w32 (z +ℤ pos 16000)
+  pub unsigned : T (nonNeg (z +ℤ pos 16000))
+  pub short : Fits w16 (natAbs (z +ℤ pos 16000))
+
+pub counted-fits : {z : ℤ} → Near z → CountedFits z
+counted-fits {z} h =
+    let b : natAbs z ≤ 16000 = abs-bound z 16000 (h .high) (h .low) in
+    let bz : Bound z = record { top = 16000; holds = b } in
+    let up : Bound (pos 16000) = record { top = 16000; holds = omega arith } in
+    record {
+      z32 = fits w32 bz tt;
+      sum = fits w32 (bz ⊕ up) tt;
+      unsigned = yes-nonNeg {z = z +ℤ pos 16000} (le-by (gap (h .low)) (vars (z ∷ []) (λ ρ v. simp (v 0, quotes, lit ρ, litN ρ) (ring _ _ ρ tt))));
+      short = record { fits = omega (arith, natAbs-add z (pos 16000)) };
+    }
+
+pub record PlaceFits (z : ℤ) : Type 0 where
+  pub z16 : SFits w16 z
+  pub z32 : SFits w32 z
+
+pub place-fits : {z : ℤ} → SFits w16 z → PlaceFits z
+place-fits f = record { z16 = f; z32 = fits w32 (of-width w16 f) tt }

@@ -88,3 +88,6 @@ last-is b n = last-each (fix-at trail b) (n - 1)
 pub ends-are : (b : List ℕ) (test : Fix → Fix → Bool) → 1 ≤ count-field b → of-ends test (fixes trail b) ≡ test (fix-at trail b 0) (fix-at trail b (count-field b - 1))
 unfolding of-ends
 ends-are b test h = rw (fixes-from b h, last-is b (count-field b)) refl
+
+pub span-is : (b : List ℕ) → IsAccepted trail b → (fix-at trail b (count-field b - 1)) .t ≤ (fix-at trail b 0) .t + 65535
+span-is b h = let c = accepted-checked b h in rw (last-is b (count-field b)) at (c .short)
