@@ -6,6 +6,11 @@ use Prim.Native.Nat.{ℕ}
 use lib.IntN.{pos, negsuc}
 use Rattle.distance.specs.Fix.{Fix}
 use Rattle.distance.specs.Box.{Box}
+use Rattle.record.specs.Bytes.{number-at, signed}
+use Rattle.record.specs.Format.{trail, fix-at, each}
+use Rattle.record.specs.Checks.{first, sentence, some-outside, some-early, some-early-after, of-ends, last-fix}
+use Rattle.record.specs.Answers.{gives, turns-away}
+use Rattle.questions.specs.Crossing.{cross-answer}
 use Rattle.distance.specs.Place.{own}
 use Rattle.distance.specs.Worked.{fix}
 use Rattle.questions.specs.Rounding.{floored, rounded}
@@ -37,3 +42,12 @@ in-window s e = first-crossing 16000 trail-l box-l s e
 pub worked-l : in-window 0 10 ∷ in-window 4 10 ∷ in-window 5 10 ∷ [] ≡ some (fraction 330 100) ∷ some (fraction 4 1) ∷ none ∷ []
 unfolding first-crossing first-from leg-first leg-times axis-times first-of later-of earlier-of
 worked-l = refl
+
+-- ---- the same on a record's bytes, checks and all: trail l as 26 bytes, and its other windows
+abbrev bytes-l : List ℕ
+bytes-l = 26 ∷ 0 ∷ 0 ∷ 0 ∷ 1 ∷ 0 ∷ 255 ∷ 255 ∷ 2 ∷ 0 ∷ 0 ∷ 0 ∷ 0 ∷ 0 ∷ 0 ∷ 0 ∷ 0 ∷ 0 ∷ 10 ∷ 0 ∷ 0 ∷ 0 ∷ 100 ∷ 0 ∷ 0 ∷ 0 ∷ []
+
+pub worked-bytes-l : cross-answer trail bytes-l 0 10 box-l ∷ cross-answer trail bytes-l 4 10 box-l ∷ cross-answer trail bytes-l 5 10 box-l ∷ cross-answer trail bytes-l 5 11 box-l ∷ []
+    ≡ gives (some (fraction 330 100)) ∷ gives (some (fraction 4 1)) ∷ gives none ∷ turns-away 13 ∷ []
+unfolding first-crossing first-from leg-first leg-times axis-times first-of later-of earlier-of first sentence fix-at each number-at signed some-outside some-early some-early-after of-ends last-fix
+worked-bytes-l = refl

@@ -26,8 +26,8 @@ ghost use Rattle.questions.specs.Legs.{times, later-of, earlier-of, both
 ghost use Rattle.questions.specs.Crossing.{cross-answer};
 ghost use Rattle.questions.specs.Answers.{found, crossed, boxOf};
 ghost use Rattle.questions.specs.Laws.Trail.{from};
-ghost use Rattle.questions.specs.Laws.Legs.{Near, NearBox};
-ghost use Rattle.questions.specs.Laws.Search.{Clock, Reach, Ready, second-outside, window-outside, edges-outside};
+ghost use Rattle.questions.specs.Laws.Legs.{InLimit, BoxInLimit};
+ghost use Rattle.questions.specs.Laws.Search.{Clock, Reach, Ready, time-outside, window-outside, edges-outside};
 
 // ---- times
 
@@ -175,14 +175,14 @@ fn leg_first(a: Raised, b: Raised, f: Frame, opens: Duration, closes: Duration) 
 // ---- places counted from −16,000 on, times from the first fix on
 
 fn counted(z: i32) -> Offset
-    requires { ⌜ Near z ⌝ }
+    requires { ⌜ InLimit z ⌝ }
     ensures { λ r. ⌜ r .0 ≡ counted 16000 z ⌝ }
 {
     Offset((z + 16000) as u16)
 }
 
 fn offset(c: Centimetres) -> Offset
-    requires { ⌜ Near (c .0) ⌝ }
+    requires { ⌜ InLimit (c .0) ⌝ }
     ensures { λ r. ⌜ r .0 ≡ counted 16000 (c .0) ⌝ }
 {
     counted(c.0 as i32)
@@ -207,7 +207,7 @@ fn raised(f: Fix, zero: Seconds) -> Raised
 }
 
 fn framed(e: Edges) -> Frame
-    requires { ⌜ NearBox (boxOf e) ⌝ }
+    requires { ⌜ BoxInLimit (boxOf e) ⌝ }
     ensures { λ r. ⌜ r ≡ framed 16000 (boxOf e) ⌝ }
 {
     let left = e.left;
@@ -258,7 +258,7 @@ fn first_crossing(
 }
 
 fn second_outside(s: Seconds, first: Seconds, last: Seconds) -> bool
-    ensures { λ r. ⌜ r ≡ second-outside (s .0) (first .0) (last .0) ⌝ }
+    ensures { λ r. ⌜ r ≡ time-outside (s .0) (first .0) (last .0) ⌝ }
 {
     (s.0 < first.0) | (last.0 < s.0)
 }

@@ -22,16 +22,11 @@ use Rattle.questions.specs.declared.Fraction.{Fraction}
 use Rattle.questions.specs.Legs.{framed, first-from, first-crossing}
 use Rattle.questions.specs.Crossing.{asked-crossing, cross-answer, Means}
 use Rattle.questions.specs.Laws.Trail.{from, fixes-from, ends-are, last-is, accepted-checked}
-use Rattle.questions.specs.Laws.Legs.{Near, NearBox}
+use Rattle.questions.specs.Laws.Legs.{InLimit, BoxInLimit}
 use Rattle.questions.specs.Laws.Search.{window-outside, edges-outside}
-use Rattle.questions.specs.Laws.Crossing.{crossing-means}
+use Rattle.questions.specs.Laws.Crossing.{GoodWindow, crossing-means}
 
 -- ---- what a window and a box that pass have
-pub record GoodWindow (s e first last : ℕ) : Type 0 where
-  pub from : first ≤ s
-  pub order : s ≤ e
-  pub to : e ≤ last
-
 pub window-good : (s e f l : ℕ) → window-outside s e f l ≡ false → GoodWindow s e f l
 window-good s e f l h =
     let a = neither (ltb e s) ((ltb s f || ltb l s) || (ltb e f || ltb l e)) h in
@@ -40,10 +35,10 @@ window-good s e f l h =
     let d = neither (ltb e f) (ltb l e) (b .1) in
     record { from = ltb-false s f (c .0); order = ltb-false e s (a .0); to = ltb-false l e (d .1) }
 
-edge-good : (z : ℤ) → outside 16000 z ≡ false → Near z
+edge-good : (z : ℤ) → outside 16000 z ≡ false → InLimit z
 edge-good z h = let n = neither (ltZ z (negℤ (pos 16000))) (ltZ (pos 16000) z) h in record { low = le-of-ltZ (n .0); high = le-of-ltZ (n .1) }
 
-pub box-good : (b : Box) → edges-outside b ≡ false → NearBox b
+pub box-good : (b : Box) → edges-outside b ≡ false → BoxInLimit b
 box-good b h =
     let i = neither (outside 16000 (b .x-low)) _ h in
     let j = neither (outside 16000 (b .x-high)) _ (i .1) in

@@ -20,7 +20,7 @@ use Rattle.questions.specs.Legs.{leg-first, or-else, raised, framed, fir
 use Rattle.questions.specs.Crossing.{Crosses, Means}
 use Rattle.questions.specs.Laws.Times.{Said, through, said-as}
 use Rattle.questions.specs.Laws.Trail.{CheckedTrail, next, leg-of, first-placed}
-use Rattle.questions.specs.Laws.Legs.{Open, LegIn, OwnIn, NearBox, absolute, leg-means, alone-means}
+use Rattle.questions.specs.Laws.Legs.{Open, LegIn, OwnIn, BoxInLimit, absolute, leg-means, alone-means}
 
 same-swap : {P Q : Place} → Same P Q → Same Q P
 same-swap h = record { same-x = sym (h .same-x); same-y = sym (h .same-y) }
@@ -103,7 +103,7 @@ unfolding place-from
 inside-own z box w v a u h = record { from = h .from; window = h .window; inside = h .inside }
 
 -- ---- the whole trail from a on, in a window that ends with it
-from-means : (z : ℕ) (box : Box) (w v : ℕ) (a : Fix) (l : List Fix) → z ≤ a .t → CheckedTrail a l → v ≤ (last-fix a l) .t - z → NearBox box
+from-means : (z : ℕ) (box : Box) (w v : ℕ) (a : Fix) (l : List Fix) → z ≤ a .t → CheckedTrail a l → v ≤ (last-fix a l) .t - z → BoxInLimit box
     → Said (Inside z box w v a l) (first-from 16000 z a l (framed 16000 box) w v)
 unfolding first-from last-fix
 from-means z box w v a [] base c ends nb =
@@ -116,12 +116,12 @@ from-means z box w v a (b ∷ l) base c ends nb =
 
 -- ---- on the fixes' own clock
 -- the window is of the trail's times
-pub record Asked (a : Fix) (l : List Fix) (s e : ℕ) : Type 0 where
-  pub from : a .t ≤ s
+pub record GoodWindow (s e first last : ℕ) : Type 0 where
+  pub from : first ≤ s
   pub order : s ≤ e
-  pub to : e ≤ (last-fix a l) .t
+  pub to : e ≤ last
 
-module _ (box : Box) (s e : ℕ) (a : Fix) (l : List Fix) (q : Asked a l s e) where
+module _ (box : Box) (s e : ℕ) (a : Fix) (l : List Fix) (q : GoodWindow s e (a .t) ((last-fix a l) .t)) where
   abbrev z : ℕ
   z = a .t
 
@@ -175,6 +175,6 @@ module _ (box : Box) (s e : ℕ) (a : Fix) (l : List Fix) (q : Asked a l s e) wh
       mul-sub-le u h d = let k : u .p - u .q * z + u .q * z ≡ u .p = omega (arith, not-before u h) in omega (arith, ap (λ (p : ℕ). p * d) k)
 
 -- THE LAW
-pub crossing-means : (a : Fix) (l : List Fix) (box : Box) (s e : ℕ) → CheckedTrail a l → NearBox box → Asked a l s e → Means (a ∷ l) box s e (first-crossing 16000 (a ∷ l) box s e)
+pub crossing-means : (a : Fix) (l : List Fix) (box : Box) (s e : ℕ) → CheckedTrail a l → BoxInLimit box → GoodWindow s e (a .t) ((last-fix a l) .t) → Means (a ∷ l) box s e (first-crossing 16000 (a ∷ l) box s e)
 unfolding first-crossing
 crossing-means a l box s e c nb q = means box s e a l q (first-from 16000 (a .t) a l (framed 16000 box) (s - a .t) (e - a .t)) (from-means (a .t) box (s - a .t) (e - a .t) a l (omega arith) c (omega (arith, q .to)) nb)

@@ -74,7 +74,7 @@ alone-said a f w v =
     rw none-gone (said-first (same-times (λ u z. record { on = z .0 .0 .0; window = z .0 .0 .1; in-x = z .0 .1; in-y = z .1 }) (λ u z. (((z .on, z .window), z .in-x), z .in-y)) e3))
 
 -- ---- places counted from −16,000 on
-pub record Near (z : ℤ) : Type 0 where
+pub record InLimit (z : ℤ) : Type 0 where
   pub low : negsuc 15999 ≤ℤ z
   pub high : z ≤ℤ pos 16000
 
@@ -85,22 +85,22 @@ pub record Counts (z : ℤ) (n : ℕ) : Type 0 where
 counts-nat : (a b : ℕ) → b ≤ a + 16000 → natAbs (diff a b +ℤ pos 16000) ≡ a + 16000 - b
 counts-nat a b h = let e : diff a b +ℤ pos 16000 ≡ pos (a + 16000 - b) = simp diffs (omega arith) in ap natAbs e
 
-pub counts : (z : ℤ) → Near z → Counts z (counted 16000 z)
+pub counts : (z : ℤ) → InLimit z → Counts z (counted 16000 z)
 counts z h = split z (λ a b p.
     let l : b ≤ a + 16000 = omega (arith, simp (p, diffs) at (h .low)) in
     let g : a ≤ b + 16000 = omega (arith, simp (p, diffs) at (h .high)) in
     rw (p, counts-nat a b l) (record { is = simp diffs (omega arith); small = omega arith }))
 
-pub record NearBox (b : Box) : Type 0 where
-  pub x-low : Near (b .x-low)
-  pub x-high : Near (b .x-high)
-  pub y-low : Near (b .y-low)
-  pub y-high : Near (b .y-high)
+pub record BoxInLimit (b : Box) : Type 0 where
+  pub x-low : InLimit (b .x-low)
+  pub x-high : InLimit (b .x-high)
+  pub y-low : InLimit (b .y-low)
+  pub y-high : InLimit (b .y-high)
 
-placed-x : {a : Fix} → Placed 16000 a → Near (a .x)
+placed-x : {a : Fix} → Placed 16000 a → InLimit (a .x)
 placed-x h = record { low = h .x-low; high = h .x-high }
 
-placed-y : {a : Fix} → Placed 16000 a → Near (a .y)
+placed-y : {a : Fix} → Placed 16000 a → InLimit (a .y)
 placed-y h = record { low = h .y-low; high = h .y-high }
 
 pub low-raised : (z : ℕ) (a : Fix) → Placed 16000 a → Low (raised 16000 z a)
@@ -155,7 +155,7 @@ pub record LegIn (z : ℕ) (box : Box) (w v : ℕ) (a b : Fix) (u : Time) : Type
   pub window : Open w v u
   pub inside : In box (leg a b (absolute z u))
 
-module _ (z : ℕ) (box : Box) (w v : ℕ) (a b : Fix) (base : z ≤ a .t) (rises : a .t < b .t) (pa : Placed 16000 a) (pb : Placed 16000 b) (nb : NearBox box) where
+module _ (z : ℕ) (box : Box) (w v : ℕ) (a b : Fix) (base : z ≤ a .t) (rises : a .t < b .t) (pa : Placed 16000 a) (pb : Placed 16000 b) (nb : BoxInLimit box) where
   abbrev A : ℕ
   A = a .t - z
 
@@ -215,7 +215,7 @@ module _ {i lo hi : ℤ} {I L H : ℕ} (ci : Counts i I) (cl : Counts lo L) (ch 
   rests-out : L ≤ I → I ≤ H → ((lo *ℤ pos 1) ≤ℤ i) × (i ≤ℤ (hi *ℤ pos 1))
   rests-out h k = (simp (ci .is, cl .is, diffs) (omega arith), simp (ci .is, ch .is, diffs) (omega arith))
 
-module _ (z : ℕ) (box : Box) (w v : ℕ) (a : Fix) (ends : v ≤ a .t - z) (pa : Placed 16000 a) (nb : NearBox box) where
+module _ (z : ℕ) (box : Box) (w v : ℕ) (a : Fix) (ends : v ≤ a .t - z) (pa : Placed 16000 a) (nb : BoxInLimit box) where
   stands-out : (u : Time) → Stands (raised 16000 z a) (framed 16000 box) w v u → OwnIn z box w v a u
   unfolding own
   stands-out u h =

@@ -25,7 +25,7 @@ use Rattle.questions.specs.Rounding.{floored, rounded}
 use Rattle.questions.specs.Moment.{Standing, beside}
 use Rattle.questions.specs.Laws.Moment.{instant}
 use Rattle.questions.specs.Laws.Trail.{Leg}
-use Rattle.questions.specs.Laws.Legs.{Near}
+use Rattle.questions.specs.Laws.Legs.{InLimit}
 
 -- z/d cut down to a whole number fits 16 bits
 pub record Short (z : ℤ) (d : ℕ) : Type 0 where
@@ -213,7 +213,7 @@ pub record CountedFits (z : ℤ) : Type 0 where
   pub unsigned : T (nonNeg (z +ℤ pos 16000))
   pub short : Fits w16 (natAbs (z +ℤ pos 16000))
 
-pub counted-fits : {z : ℤ} → Near z → CountedFits z
+pub counted-fits : {z : ℤ} → InLimit z → CountedFits z
 counted-fits {z} h =
     let b : natAbs z ≤ 16000 = abs-bound z 16000 (h .high) (h .low) in
     let bz : Bound z = record { top = 16000; holds = b } in

@@ -8,7 +8,6 @@ use native.Mathlib.Nat.{mul-le-mul-left}
 use native.Mathlib.Omega.{arith}
 use lib.Dec.{ltb}
 use lib.Signed.{ltZ}
-use lib.ListN.{length}
 use mir.Syntax.{w16}
 use mir.Val.{Fits}
 use borrow.Author.Tests.{le-leb, lt-leb}
@@ -16,8 +15,6 @@ use Rattle.distance.specs.Fix.{Fix, Placed}
 use Rattle.distance.specs.Box.{Box}
 use Rattle.record.specs.Format.{trail, fix-at, count-field}
 use Rattle.record.specs.Checks.{IsAccepted, outside, last-fix}
-use Rattle.record.specs.Laws.Head.{Head}
-use Rattle.record.specs.Laws.Accepted.{accepted-good}
 use Rattle.questions.specs.declared.Fraction.{Fraction}
 use Rattle.questions.specs.declared.Times.{Times}
 use Rattle.distance.specs.declared.Duration.{Duration}
@@ -25,7 +22,7 @@ use Rattle.questions.specs.declared.Offset.{Offset}
 use Rattle.questions.specs.declared.Raised.{Raised}
 use Rattle.questions.specs.declared.Frame.{Frame}
 use Rattle.questions.specs.Legs.{later-of, earlier-of, first-of, leg-first, or-else, raised, first-from}
-use Rattle.questions.specs.Laws.Trail.{CheckedTrail, from, from-next, from-end, next, leg-of, first-placed, last-after, accepted-checked}
+use Rattle.questions.specs.Laws.Trail.{CheckedTrail, from, from-next, from-end, next, leg-of, first-placed, last-after, accepted-checked, lent}
 
 -- a leg that begins at start and takes so many seconds, all of one record
 pub record Clock (start takes : ℕ) : Type 0 where
@@ -71,11 +68,11 @@ fits-32 {A} {D} {v} {n} c fv fn =
     record { start = omega (arith, c .fits); takes = omega (arith, c .fits); sum = omega (arith, c .fits) }
 
 -- ---- the checks of a window and of a box, of the trail's first and last time
-abbrev pub second-outside : (s first last : ℕ) → Bool
-second-outside s first last = ltb s first || ltb last s
+abbrev pub time-outside : (s first last : ℕ) → Bool
+time-outside s first last = ltb s first || ltb last s
 
 abbrev pub window-outside : (s e first last : ℕ) → Bool
-window-outside s e first last = ltb e s || (second-outside s first last || second-outside e first last)
+window-outside s e first last = ltb e s || (time-outside s first last || time-outside e first last)
 
 abbrev pub edges-outside : Box → Bool
 edges-outside b = outside 16000 (b .x-low) || (outside 16000 (b .x-high) || (outside 16000 (b .y-low) || (outside 16000 (b .y-high) || (ltZ (b .x-high) (b .x-low) || ltZ (b .y-high) (b .y-low)))))
@@ -91,16 +88,6 @@ pub record Ready (b : List ℕ) (n zero : ℕ) : Type 0 where
   pub is-accepted : IsAccepted trail b
   pub count : n ≡ count-field b
   pub first-time : zero ≡ (fix-at trail b 0) .t
-
-pub record Lent (b : List ℕ) (n : ℕ) : Type 0 where
-  pub some : 1 ≤ n
-  pub few : n ≤ 4096
-  pub whole : 10 + 8 * n ≤ length b
-
-pub lent : {b : List ℕ} {n z : ℕ} → Ready b n z → Lent b n
-lent {b} {n} {z} r =
-    let g : Head b = accepted-good b (r .is-accepted) .head in
-    rw (r .count) (record { some = g .some-fix; few = g .few-fixes; whole = g .whole })
 
 -- what is left of the search: a is the fix before position k
 pub record Seek (b : List ℕ) (n z : ℕ) (f : Frame) (w v : ℕ) (a : Raised) (k : ℕ) : Type 0 where
@@ -121,7 +108,7 @@ first-reach {b} {n} {z} r = record { from = omega (arith, r .first-time); to = o
 pub seek-start : {b : List ℕ} {n z : ℕ} {a : Raised} (f : Frame) (w v : ℕ) → Ready b n z → a ≡ raised 16000 z (fix-at trail b 0) → Seek b n z f w v a 1
 seek-start f w v r e =
     let c = checked-n r in
-    record { some = omega arith; few = lent r .some; here = e; checked = c; base = omega (arith, r .first-time); last = omega (arith, r .first-time, c .short); left = refl }
+    record { some = omega arith; few = lent (r .is-accepted) (r .count) .some; here = e; checked = c; base = omega (arith, r .first-time); last = omega (arith, r .first-time, c .short); left = refl }
 
 module _ {b : List ℕ} {n z : ℕ} {f : Frame} {w v : ℕ} {a : Raised} {k : ℕ} (x : Seek b n z f w v a k) where
   module _ (h : k < n) where

@@ -2,10 +2,11 @@
 use mathlib.Core.Path.{_≡_, refl, _∙_}
 use mathlib.Core.Bool.{Bool}
 use mathlib.Core.List.{List, [], _∷_}
-use Prim.Native.Nat.{ℕ, zero, suc, _+_, _-_, _<_, _≤_}
+use Prim.Native.Nat.{ℕ, zero, suc, _+_, _*_, _-_, _<_, _≤_}
 use native.Mathlib.Omega.{arith}
 use Rattle.distance.specs.Fix.{Fix, Placed, After, none-after, later, Rising, rising}
 use Rattle.distance.specs.Laws.All.{All, all-more}
+use lib.ListN.{length}
 use Rattle.record.specs.Format.{trail, fix-at, each, count-field, fixes}
 use Rattle.record.specs.Checks.{IsAccepted, last-fix, of-ends}
 use Rattle.record.specs.Laws.Each.{each-first, each-more}
@@ -91,3 +92,12 @@ ends-are b test h = rw (fixes-from b h, last-is b (count-field b)) refl
 
 pub span-is : (b : List ℕ) → IsAccepted trail b → (fix-at trail b (count-field b - 1)) .t ≤ (fix-at trail b 0) .t + 65535
 span-is b h = let c = accepted-checked b h in rw (last-is b (count-field b)) at (c .short)
+
+-- how far the bytes of an accepted record of n fixes reach
+pub record Lent (b : List ℕ) (n : ℕ) : Type 0 where
+  pub some : 1 ≤ n
+  pub few : n ≤ 4096
+  pub whole : 10 + 8 * n ≤ length b
+
+pub lent : {b : List ℕ} {n : ℕ} → IsAccepted trail b → n ≡ count-field b → Lent b n
+lent {b} h e = let g = accepted-good b h .head in rw e (record { some = g .some-fix; few = g .few-fixes; whole = g .whole })

@@ -3,7 +3,6 @@ use mathlib.Core.Path.{_≡_, refl, _∙_}
 use mathlib.Core.List.{List, _∷_}
 use Prim.Native.Nat.{ℕ, _+_, _*_, _<_, _≤_}
 use native.Mathlib.Omega.{arith}
-use lib.ListN.{length}
 use borrow.Author.Tests.{le-leb, lt-leb}
 use Rattle.distance.specs.Fix.{Fix}
 use Rattle.distance.specs.Place.{own, leg, place-from, place}
@@ -21,16 +20,6 @@ pub record Walk (b : List ℕ) (n u : ℕ) (a : Fix) (k : ℕ) : Type 0 where
   pub checked : CheckedTrail a (from b k n)
   pub reached : 1000 * a .t ≤ u
   pub left : place (fixes trail b) (instant u) ≡ place-from a (from b k n) (instant u)
-
-pub record Lent (b : List ℕ) (n : ℕ) : Type 0 where
-  pub some : 1 ≤ n
-  pub few : n ≤ 4096
-  pub whole : 10 + 8 * n ≤ length b
-
-pub lent : {b : List ℕ} {n u : ℕ} → Reached b n u → Lent b n
-lent {b} {n} {u} r =
-    let g : Head b = accepted-good b (r .is-accepted) .head in
-    rw (r .count) (record { some = g .some-fix; few = g .few-fixes; whole = g .whole })
 
 first-left : (b : List ℕ) (u : ℕ) → 1 ≤ count-field b → place (fixes trail b) (instant u) ≡ place-from (fix-at trail b 0) (from b 1 (count-field b)) (instant u)
 unfolding place

@@ -14,7 +14,8 @@ use Rattle.questions.specs.declared.Fraction.{Fraction}
 use Rattle.questions.specs.Answers.{boxOf}
 use Rattle.questions.specs.Laws.Trail.{span-is}
 use Rattle.questions.specs.Laws.Search.{window-outside, edges-outside}
-use Rattle.questions.specs.Laws.Checking.{GoodWindow, window-good, box-good, cross-13, cross-14, cross-gives}
+use Rattle.questions.specs.Laws.Crossing.{GoodWindow}
+use Rattle.questions.specs.Laws.Checking.{window-good, box-good, cross-13, cross-14, cross-gives}
 use borrow.Author.Needs.{needs}
 use Rattle.questions.proofs.crossing.cross_accepted.Statement.{statement}
 use Rattle.questions.proofs.crossing.cross_accepted.Tie as tie

@@ -2,7 +2,8 @@ use mathlib.Core.Path.{sym, _∙_, ap}
 use Prim.Native.Nat.{_-_}
 use native.Mathlib.Omega.{arith}
 use Rattle.questions.specs.Answers.{found}
-use Rattle.questions.specs.Laws.Search.{Seek, lent, first-reach, seek-start, seek-reach, seek-rises, seek-found, seek-next, seek-end}
+use Rattle.questions.specs.Laws.Trail.{lent}
+use Rattle.questions.specs.Laws.Search.{Seek, first-reach, seek-start, seek-reach, seek-rises, seek-found, seek-next, seek-end}
 use borrow.Author.Needs.{needs}
 use Rattle.questions.proofs.crossing.first_crossing.Statement.{statement}
 use Rattle.questions.proofs.crossing.first_crossing.Tie as tie
@@ -14,13 +15,13 @@ abbrev μ-loop : tie.MeasureT-loop
 μ-loop b n f zero opens closes a₀ k₀ a k = n - k
 
 raised-at-requires : tie.Need-raised-at-requires Inv-loop μ-loop
-raised-at-requires c κs = let l = lent (c .before .pre) in (omega (arith, l .whole, l .some), first-reach (c .before .pre))
+raised-at-requires c κs = let l = lent (c .before .pre .is-accepted) (c .before .pre .count) in (omega (arith, l .whole, l .some), first-reach (c .before .pre))
 
 loop-holds : tie.Need-loop-holds Inv-loop μ-loop
 loop-holds c = seek-start _ _ _ (c .before .before .pre) (c .raised-at .ensures)
 
 raised-at-requires-2 : tie.Need-raised-at-requires-2 Inv-loop μ-loop
-raised-at-requires-2 c κs = let l = lent (c .before .before .before .before .pre) in (omega (arith, l .whole, c .loop-test .taken), seek-reach (c .before .loop .inv) (c .loop-test .taken))
+raised-at-requires-2 c κs = let l = lent (c .before .before .before .before .pre .is-accepted) (c .before .before .before .before .pre .count) in (omega (arith, l .whole, c .loop-test .taken), seek-reach (c .before .loop .inv) (c .loop-test .taken))
 
 leg-first-requires : tie.Need-leg-first-requires Inv-loop μ-loop
 leg-first-requires c κs = seek-rises (c .before .before .loop .inv) (c .before .loop-test .taken) (c .raised-at2 .ensures)

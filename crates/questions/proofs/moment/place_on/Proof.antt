@@ -3,7 +3,8 @@ use Prim.Native.Nat.{_-_}
 use native.Mathlib.Omega.{arith}
 use Rattle.distance.specs.Fix.{fixOf}
 use Rattle.questions.specs.Moment.{beside}
-use Rattle.questions.specs.Laws.Walk.{Walk, lent, walk-start, walk-leg, walk-found, walk-next, walk-end}
+use Rattle.questions.specs.Laws.Trail.{lent}
+use Rattle.questions.specs.Laws.Walk.{Walk, walk-start, walk-leg, walk-found, walk-next, walk-end}
 use borrow.Author.Needs.{needs}
 use Rattle.questions.proofs.moment.place_on.Statement.{statement}
 use Rattle.questions.proofs.moment.place_on.Tie as tie
@@ -15,13 +16,13 @@ abbrev μ-loop : tie.MeasureT-loop
 μ-loop b n u a₀ k₀ a k = n - k
 
 fix-at-requires : tie.Need-fix-at-requires Inv-loop μ-loop
-fix-at-requires c κs = let l = lent (c .before .pre) in search needs
+fix-at-requires c κs = let l = lent (c .before .pre .is-accepted) (c .before .pre .count) in search needs
 
 loop-holds : tie.Need-loop-holds Inv-loop μ-loop
 loop-holds c = walk-start (c .before .before .pre) (c .fix-at .ensures)
 
 fix-at-requires-2 : tie.Need-fix-at-requires-2 Inv-loop μ-loop
-fix-at-requires-2 c κs = let l = lent (c .before .before .before .before .pre) in search needs
+fix-at-requires-2 c κs = let l = lent (c .before .before .before .before .pre .is-accepted) (c .before .before .before .before .pre .count) in search needs
 
 instant-requires : tie.Need-instant-requires Inv-loop μ-loop
 instant-requires c κs = search needs
