@@ -10,7 +10,7 @@ use lib.IntN.{ℤ}
 use lib.ListN.{length}
 use borrow.Author.Tests.{ltb-true, ltb-false}
 use Rattle.distance.specs.Fix.{Fix}
-use Rattle.record.specs.Format.{trail, count-field, mark-field, record-length}
+use Rattle.record.specs.Format.{trail, count-field, mark-field}
 use Rattle.record.specs.Checks.{Check, few-bytes, other-kind, bad-count, bad-length, short-record, bad-mark, misplaced, unordered, long-span, high-tolerance, bad-thousandths, bad-moment, bad-window, bad-box, short-output, number, first, read-refusal}
 use Rattle.record.specs.Reading.{of-head}
 use Rattle.record.specs.Answers.{answer as told}

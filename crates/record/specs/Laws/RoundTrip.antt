@@ -132,6 +132,10 @@ read-record mark l r marked few h =
 abbrev pub AreBytes : List ℕ → Type 0
 AreBytes = All (λ (x : ℕ). x < 256)
 
+pub are-bytes : (b : List ℕ) → ((i : ℕ) → getD b i 0 < 256) → AreBytes b
+are-bytes [] h = all-none
+are-bytes (n ∷ b) h = all-more (h 0) (are-bytes b (λ i. h (suc i)))
+
 byte-at : {b : List ℕ} (at : ℕ) → AreBytes b → getD b at 0 < 256
 byte-at at all-none = omega arith
 byte-at zero (all-more h t) = h

@@ -25,7 +25,6 @@ split-at t = and 2 split-kinds.ps (is 2 split-kinds.ps μ-split t) split.Pre
 abbrev split-below : ℕ → In 2 split-kinds.ps
 split-below t = and 2 split-kinds.ps (falls 2 split-kinds.ps _<_ μ-split t) split.Pre
 
--- src/lib.rt:57:8
 split-sub-if1 : (t : ℕ) → split-lts.Need-sub-if1 (
   furthest-reads.Asked,
   furthest-reads.Learnt,
@@ -36,7 +35,6 @@ split-sub-if1 : (t : ℕ) → split-lts.Need-sub-if1 (
 ) (split-at t) split.Post
 split-sub-if1 t c = search needs
 
--- src/lib.rt:58:9
 split-returns : (t : ℕ) → split-lts.Need-returns (
   furthest-reads.Asked,
   furthest-reads.Learnt,
@@ -47,7 +45,6 @@ split-returns : (t : ℕ) → split-lts.Need-returns (
 ) (split-at t) split.Post
 split-returns t c = marks-none (c .if1 .taken)
 
--- src/lib.rt:60:9
 split-furthest-requires : (t : ℕ) → split-lts.Need-furthest-requires (
   furthest-reads.Asked,
   furthest-reads.Learnt,
@@ -58,7 +55,6 @@ split-furthest-requires : (t : ℕ) → split-lts.Need-furthest-requires (
 ) (split-at t) split.Post
 split-furthest-requires t c κs = let p = c .before .before .before .pre .1 in (omega arith, p .3, p .4)
 
--- src/lib.rt:62:14
 split-sub-n : (t : ℕ) → split-lts.Need-sub-n (
   furthest-reads.Asked,
   furthest-reads.Learnt,
@@ -69,7 +65,6 @@ split-sub-n : (t : ℕ) → split-lts.Need-sub-n (
 ) (split-at t) split.Post
 split-sub-n t c = search needs
 
--- src/lib.rt:62:14
 split-sub-n-2 : (t : ℕ) → split-lts.Need-sub-n-2 (
   furthest-reads.Asked,
   furthest-reads.Learnt,
@@ -80,7 +75,6 @@ split-sub-n-2 : (t : ℕ) → split-lts.Need-sub-n-2 (
 ) (split-at t) split.Post
 split-sub-n-2 t c = search needs
 
--- src/lib.rt:62:13
 split-cast-n : (t : ℕ) → split-lts.Need-cast-n (
   furthest-reads.Asked,
   furthest-reads.Learnt,
@@ -91,7 +85,6 @@ split-cast-n : (t : ℕ) → split-lts.Need-cast-n (
 ) (split-at t) split.Post
 split-cast-n t c = search needs
 
--- src/lib.rt:63:9
 split-limit-requires : (t : ℕ) → split-lts.Need-limit-requires (
   furthest-reads.Asked,
   furthest-reads.Learnt,
@@ -102,7 +95,6 @@ split-limit-requires : (t : ℕ) → split-lts.Need-limit-requires (
 ) (split-at t) split.Post
 split-limit-requires t c κs = let p = c .before .before .before .before .pre .1 in (p .0, p .3, p .4)
 
--- src/lib.rt:65:9
 split-returns-2 : (t : ℕ) → split-lts.Need-returns-2 (
   furthest-reads.Asked,
   furthest-reads.Learnt,
@@ -113,7 +105,6 @@ split-returns-2 : (t : ℕ) → split-lts.Need-returns-2 (
 ) (split-at t) split.Post
 split-returns-2 t c = marks-ends (c .before .before .before .furthest .ensures) (omega (arith, c .before .before .limit .ensures))
 
--- src/lib.rt:67:5
 split-slice-write-keep : (t : ℕ) → split-lts.Need-slice-write-keep (
   furthest-reads.Asked,
   furthest-reads.Learnt,
@@ -124,7 +115,6 @@ split-slice-write-keep : (t : ℕ) → split-lts.Need-slice-write-keep (
 ) (split-at t) split.Post
 split-slice-write-keep t c = let x = c .before .before .before .furthest .ensures in omega (arith, x .low, x .high)
 
--- src/lib.rt:68:9
 split-split-requires : (t : ℕ) → split-lts.Need-split-requires (
   furthest-reads.Asked,
   furthest-reads.Learnt,
@@ -135,7 +125,6 @@ split-split-requires : (t : ℕ) → split-lts.Need-split-requires (
 ) (split-at t) split.Post
 split-split-requires t c κs = let x = c .before .before .before .before .furthest .ensures in let p = c .before .before .before .before .before .before .before .before .pre .1 in (omega (arith, x .low, x .high), (omega (arith, x .low), omega (arith, x .high), simp length-set (omega (arith, x .high)), omega (arith, x .high), fewer _ (omega (arith, x .high)) (p .4)))
 
--- src/lib.rt:69:9
 split-split-requires-2 : (t : ℕ) → split-lts.Need-split-requires-2 (
   furthest-reads.Asked,
   furthest-reads.Learnt,
@@ -146,7 +135,6 @@ split-split-requires-2 : (t : ℕ) → split-lts.Need-split-requires-2 (
 ) (split-at t) split.Post
 split-split-requires-2 t c κs = let x = c .before .before .before .before .before .before .before .before .furthest .ensures in let p = c .before .before .before .before .before .before .before .before .before .before .before .before .pre .1 in let l = simp length-set at (c .before .before .before .split .kept .1 .0) in (omega (arith, x .low, x .high), (omega (arith, x .high), p .1, omega arith, p .3, p .4))
 
--- src/lib.rt:53:1
 split-returns-3 : (t : ℕ) → split-lts.Need-returns-3 (
   furthest-reads.Asked,
   furthest-reads.Learnt,
@@ -157,7 +145,6 @@ split-returns-3 : (t : ℕ) → split-lts.Need-returns-3 (
 ) (split-at t) split.Post
 split-returns-3 t c = marks-split (c .before .before .before .before .before .before .before .before .before .before .before .furthest .ensures) (omega (arith, c .before .before .before .before .before .before .before .before .before .before .limit .ensures)) (c .before .before .before .before .before .before .split .ensures) (c .before .before .split2 .ensures)
 
--- src/lib.rt:70:5
 split-add-result : (t : ℕ) → split-lts.Need-add-result (
   furthest-reads.Asked,
   furthest-reads.Learnt,
@@ -168,7 +155,6 @@ split-add-result : (t : ℕ) → split-lts.Need-add-result (
 ) (split-at t) split.Post
 split-add-result t c = omega (arith, marks-small _ _ _ _ (split-returns-3 t c) (omega arith))
 
--- src/lib.rt:70:5
 split-add-result-2 : (t : ℕ) → split-lts.Need-add-result-2 (
   furthest-reads.Asked,
   furthest-reads.Learnt,
@@ -179,7 +165,6 @@ split-add-result-2 : (t : ℕ) → split-lts.Need-add-result-2 (
 ) (split-at t) split.Post
 split-add-result-2 t c = omega (arith, marks-small _ _ _ _ (split-returns-3 t c) (omega arith))
 
--- src/lib.rt:53:1
 split-same-length : (t : ℕ) → split-lts.Need-same-length (
   furthest-reads.Asked,
   furthest-reads.Learnt,

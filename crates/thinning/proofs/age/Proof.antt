@@ -11,35 +11,27 @@ use Rattle.thinning.proofs.age.Tie as tie
 passed : (c : tie.After-enum-told) → age-refusal (now (c .before .before .before .before .before .args .b)) (c .before .before .before .before .before .args .e .0) ≡ none
 passed c = sym (c .before .before .age-says .ensures) ∙ ap refused (c .enum-told .given .1)
 
--- src/lib.rt:158:9
 age-says-requires : tie.Need-age-says-requires
 age-says-requires c κs = search needs
 
--- src/lib.rt:160:26
 enum-known-v : tie.Need-enum-known-v
 enum-known-v c = search needs
 
--- src/lib.rt:161:47
 enum-told : tie.Need-enum-told
 enum-told c = search needs
 
--- src/lib.rt:161:42
 thin-requires : tie.Need-thin-requires
 thin-requires c κs = age-accepted _ (c .before .before .before .before .before .before .args .e .0) (passed (c .before))
 
--- src/lib.rt:155:1
 same-length : tie.Need-same-length
 same-length c = search needs
 
--- src/lib.rt:155:1
 returns : tie.Need-returns
 returns c = age-refused _ _ _ (sym (c .before .before .before .age-says .ensures) ∙ ap refused (c .before .v .given .1))
 
--- src/lib.rt:155:1
 same-length-2 : tie.Need-same-length-2
 same-length-2 c = search needs
 
--- src/lib.rt:155:1
 returns-2 : tie.Need-returns-2
 returns-2 c =
     let s = c .before .before .before .before .before .before .before .before .before in

@@ -12,39 +12,30 @@ use Rattle.thinning.proofs.age_by_days.Tie as tie
 passed : (c : tie.After-enum-told) → read-refusal trail (now (c .before .before .before .before .before .args .b)) ≡ none
 passed c = sym (c .before .before .check .ensures) ∙ ap refused (c .enum-told .given .1)
 
--- src/lib.rt:209:9
 check-requires : tie.Need-check-requires
 check-requires c κs = search needs
 
--- src/lib.rt:211:26
 enum-known-v : tie.Need-enum-known-v
 enum-known-v c = search needs
 
--- src/lib.rt:212:50
 enum-told : tie.Need-enum-told
 enum-told c = search needs
 
--- src/lib.rt:212:53
 tolerance-for-requires : tie.Need-tolerance-for-requires
 tolerance-for-requires c κs = search needs
 
--- src/lib.rt:212:42
 thin-if-requires : tie.Need-thin-if-requires
 thin-if-requires c κs = record { accepted = passed (c .before .before) }
 
--- src/lib.rt:206:1
 same-length : tie.Need-same-length
 same-length c = search needs
 
--- src/lib.rt:206:1
 returns : tie.Need-returns
 returns c = days-refused _ _ _ (sym (c .before .before .before .check .ensures) ∙ ap refused (c .before .v .given .1))
 
--- src/lib.rt:206:1
 same-length-2 : tie.Need-same-length-2
 same-length-2 c = search needs
 
--- src/lib.rt:206:1
 returns-2 : tie.Need-returns-2
 returns-2 c =
     let s = c .before .before .before .before .before .before .before .before .before .before in

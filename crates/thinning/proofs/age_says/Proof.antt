@@ -6,27 +6,21 @@ use borrow.Author.Needs.{needs}
 use Rattle.thinning.proofs.age_says.Statement.{statement}
 use Rattle.thinning.proofs.age_says.Tie as tie
 
--- src/lib.rt:141:9
 check-requires : tie.Need-check-requires
 check-requires c κs = search needs
 
--- src/lib.rt:143:26
 enum-known-v : tie.Need-enum-known-v
 enum-known-v c = search needs
 
--- src/lib.rt:145:16
 enum-told : tie.Need-enum-told
 enum-told c = search needs
 
--- src/lib.rt:138:1
 returns : tie.Need-returns
 returns c = sym (age-reader (now (c .before .before .before .before .before .args .b)) _ _ (sym (c .before .before .before .check .ensures) ∙ ap refused (c .before .v .given .1)))
 
--- src/lib.rt:138:1
 returns-2 : tie.Need-returns-2
 returns-2 c = sym (age-10 (now (c .before .before .before .before .before .before .args .b)) _ (sym (c .before .before .before .before .check .ensures) ∙ ap refused (c .before .before .enum-told .given .1)) (c .if1 .taken))
 
--- src/lib.rt:138:1
 returns-3 : tie.Need-returns-3
 returns-3 c = sym (age-none (now (c .before .before .before .before .before .before .args .b)) _ (sym (c .before .before .before .before .check .ensures) ∙ ap refused (c .before .before .enum-told .given .1)) (c .if1 .left))
 

@@ -17,51 +17,39 @@ Inv-loop b lo hi i j at₀ value₀ k₀ at value k = (k ≤ hi) × (lo < k) × 
 abbrev μ-loop : tie.MeasureT-loop
 μ-loop b lo hi i j at₀ value₀ k₀ at value k = hi - k
 
--- src/lib.rt:22:9
 fix-at-requires : tie.Need-fix-at-requires Inv-loop μ-loop
 fix-at-requires c κs = search needs
 
--- src/lib.rt:23:9
 fix-at-requires-2 : tie.Need-fix-at-requires-2 Inv-loop μ-loop
 fix-at-requires-2 c κs = search needs
 
--- src/lib.rt:24:18
 add-at : tie.Need-add-at Inv-loop μ-loop
 add-at c = search needs
 
--- src/lib.rt:25:44
 fix-at-requires-3 : tie.Need-fix-at-requires-3 Inv-loop μ-loop
 fix-at-requires-3 c κs = search needs
 
--- src/lib.rt:25:9
 deviation-requires : tie.Need-deviation-requires Inv-loop μ-loop
 deviation-requires c κs = spanned (c .before .before .fix-at .ensures) (c .fix-at3 .ensures) (c .before .fix-at2 .ensures) (c .before .before .before .before .pre .2 .spans _ _ _ (omega arith) (omega arith) (omega arith))
 
--- src/lib.rt:26:17
 add-k : tie.Need-add-k Inv-loop μ-loop
 add-k c = search needs
 
--- src/lib.rt:27:5
 loop-holds : tie.Need-loop-holds Inv-loop μ-loop
 loop-holds c = (omega arith, omega arith, furthest-one _ (measured (c .before .before .before .fix-at .ensures) (c .before .fix-at3 .ensures) (c .before .before .fix-at2 .ensures) (c .deviation .ensures)))
 
--- src/lib.rt:28:40
 fix-at-requires-4 : tie.Need-fix-at-requires-4 Inv-loop μ-loop
 fix-at-requires-4 c κs = search needs
 
--- src/lib.rt:28:13
 deviation-requires-2 : tie.Need-deviation-requires-2 Inv-loop μ-loop
 deviation-requires-2 c κs = spanned (c .before .before .before .before .before .before .fix-at .ensures) (c .fix-at4 .ensures) (c .before .before .before .before .before .fix-at2 .ensures) (c .before .before .before .before .before .before .before .before .pre .2 .spans _ _ _ (omega arith) (omega arith) (omega arith))
 
--- src/lib.rt:33:9
 add-k-2 : tie.Need-add-k-2 Inv-loop μ-loop
 add-k-2 c = search needs
 
--- src/lib.rt:27:5
 loop-less : tie.Need-loop-less Inv-loop μ-loop
 loop-less c = search needs
 
--- src/lib.rt:27:5
 loop-again : tie.Need-loop-again Inv-loop μ-loop
 loop-again c =
     let x = c .before .before .before .before .loop .inv .2 in
@@ -71,7 +59,6 @@ loop-again c =
     (λ w. (omega arith, omega arith, rw (w .1, w .2) (furthest-stay x v e (w .0 .left))))
     (c .if1 .came)
 
--- src/lib.rt:18:1
 returns : tie.Need-returns Inv-loop μ-loop
 returns c =
     let l = c .before .loop in

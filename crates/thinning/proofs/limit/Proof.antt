@@ -5,20 +5,16 @@ use borrow.Author.Needs.{needs}
 use Rattle.thinning.proofs.limit.Statement.{statement}
 use Rattle.thinning.proofs.limit.Tie as tie
 
--- src/lib.rt:25:9
 fix-at-requires : tie.Need-fix-at-requires
 fix-at-requires c κs = search needs
 
--- src/lib.rt:26:9
 fix-at-requires-2 : tie.Need-fix-at-requires-2
 fix-at-requires-2 c κs = search needs
 
--- src/lib.rt:27:5
 allowance-requires : tie.Need-allowance-requires
 allowance-requires c κs = let p = c .before .before .before .pre in
     rw (c .before .fix-at .ensures, c .fix-at2 .ensures) (p .2 .spans _ _ _ (le-refl _) (p .0) (omega arith) .chord)
 
--- src/lib.rt:21:1
 returns : tie.Need-returns
 returns c = rw (c .allowance .ensures, c .before .before .fix-at .ensures, c .before .fix-at2 .ensures) refl
 

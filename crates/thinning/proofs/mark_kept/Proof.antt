@@ -11,29 +11,23 @@ use borrow.Author.Needs.{needs}
 use Rattle.thinning.proofs.mark_kept.Statement.{statement}
 use Rattle.thinning.proofs.mark_kept.Tie as tie
 
--- src/lib.rt:108:16
 sub-last : tie.Need-sub-last
 sub-last c = search needs
 
--- src/lib.rt:109:5
 slice-write-keep : tie.Need-slice-write-keep
 slice-write-keep c = search needs
 
--- src/lib.rt:110:5
 slice-write-keep-2 : tie.Need-slice-write-keep-2
 slice-write-keep-2 c = simp length-set (omega arith)
 
--- src/lib.rt:111:5
 split-requires : tie.Need-split-requires
 split-requires c κs =
     let p = c .before .before .before .pre in
     (omega arith, omega arith, simp length-set (omega arith), omega arith, fewer _ (omega arith) (p .5))
 
--- src/lib.rt:104:1
 same-length : tie.Need-same-length
 same-length c = marks-length deviation allowance _ _ (c .before .before .split .ensures) ∙ simp length-set
 
--- src/lib.rt:104:1
 returns : tie.Need-returns
 returns c =
     let s = c .before .before .before .before .before .before in

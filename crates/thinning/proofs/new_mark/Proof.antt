@@ -6,21 +6,17 @@ use borrow.Author.Needs.{needs}
 use Rattle.thinning.proofs.new_mark.Statement.{statement}
 use Rattle.thinning.proofs.new_mark.Tie as tie
 
--- src/lib.rt:94:13
 cast-t : tie.Need-cast-t
 cast-t c = search needs
 
--- src/lib.rt:96:9
 returns : tie.Need-returns
 unfolding new-mark
 returns c = (rw (eq-eqb _ _ (c .if1 .taken)) refl, search needs)
 
--- src/lib.rt:90:1
 returns-2 : tie.Need-returns-2
 unfolding new-mark
 returns-2 c = (rw (ne-eqb _ _ (c .before .if1 .left)) (omega arith), search needs)
 
--- src/lib.rt:90:1
 returns-3 : tie.Need-returns-3
 unfolding new-mark
 returns-3 c = (rw (ne-eqb _ _ (c .before .if1 .left)) (omega arith), search needs)

@@ -17,43 +17,33 @@ Inv-loop b₀ keep n w₀ i₀ b w i = (i ≤ n) × (length b ≡ length b₀) �
 abbrev μ-loop : tie.MeasureT-loop
 μ-loop b₀ keep n w₀ i₀ b w i = n - i
 
--- src/lib.rt:78:5
 loop-holds : tie.Need-loop-holds Inv-loop μ-loop
 loop-holds c = (omega arith, refl, packed-none _ _)
 
--- src/lib.rt:79:12
 shared-slice-read-if1 : tie.Need-shared-slice-read-if1 Inv-loop μ-loop
 shared-slice-read-if1 c = search needs
 
--- src/lib.rt:80:17
 fix-at-requires : tie.Need-fix-at-requires Inv-loop μ-loop
 fix-at-requires c κs = search needs
 
--- src/lib.rt:81:37
 mul-put-fix : tie.Need-mul-put-fix Inv-loop μ-loop
 mul-put-fix c = search needs
 
--- src/lib.rt:81:32
 add-put-fix : tie.Need-add-put-fix Inv-loop μ-loop
 add-put-fix c = search needs
 
--- src/lib.rt:81:13
 put-fix-requires : tie.Need-put-fix-requires Inv-loop μ-loop
 put-fix-requires c κs = search needs
 
--- src/lib.rt:82:13
 add-w : tie.Need-add-w Inv-loop μ-loop
 add-w c = search needs
 
--- src/lib.rt:84:9
 add-i : tie.Need-add-i Inv-loop μ-loop
 add-i c = search needs
 
--- src/lib.rt:78:5
 loop-less : tie.Need-loop-less Inv-loop μ-loop
 loop-less c = search needs
 
--- src/lib.rt:78:5
 loop-again : tie.Need-loop-again Inv-loop μ-loop
 loop-again c =
     let i = c .before .before .before .loop .inv in
@@ -67,11 +57,9 @@ loop-again c =
     (λ w. (omega arith, ap length (w .1) ∙ i .1, rw (w .1, w .2) (packed-skip (i .2) (w .0 .left))))
     (c .if1 .came)
 
--- src/lib.rt:72:1
 same-length : tie.Need-same-length Inv-loop μ-loop
 same-length c = search needs
 
--- src/lib.rt:72:1
 returns : tie.Need-returns Inv-loop μ-loop
 returns c =
     let e : c .before .loop .i ≡ c .before .before .before .before .args .n = omega arith in

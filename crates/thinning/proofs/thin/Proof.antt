@@ -28,23 +28,18 @@ few c = omega (arith, count-is c, head (c .before .before .before) .few-fixes)
 whole : (c : tie.After-count-at) → 10 + 8 * c .count-at .result ≤ length (now (c .before .before .before .args .b))
 whole c = omega (arith, count-is c, head (c .before .before .before) .whole)
 
--- src/lib.rt:119:9
 count-at-requires : tie.Need-count-at-requires
 count-at-requires c κs = head (c .before .before) .ten
 
--- src/lib.rt:120:25
 mark-at-requires : tie.Need-mark-at-requires
 mark-at-requires c κs = head (c .before .before .before .before) .ten
 
--- src/lib.rt:120:9
 new-mark-requires : tie.Need-new-mark-requires
 new-mark-requires c κs = search needs
 
--- src/lib.rt:122:30
 slice-aggregate-mark-kept : tie.Need-slice-aggregate-mark-kept
 slice-aggregate-mark-kept c = search needs
 
--- src/lib.rt:122:9
 mark-kept-requires : tie.Need-mark-kept-requires
 mark-kept-requires c κs =
     let n = c .before .before .before .before .before in
@@ -57,27 +52,21 @@ mark-kept-requires c κs =
       rw (count-is n) (accepted-spans (now (c .before .before .before .before .before .before .before .before .args .b)) (c .before .before .before .before .before .before .before .before .pre)),
     )
 
--- src/lib.rt:123:24
 slice-aggregate-pack : tie.Need-slice-aggregate-pack
 slice-aggregate-pack c = search needs
 
--- src/lib.rt:123:9
 pack-requires : tie.Need-pack-requires
 pack-requires c κs = (few (c .before .before .before .before .before .before .before .before .before), rw (c .before .before .before .mark-kept .kept .1 .0 ∙ length-replicate 4096 false) (few (c .before .before .before .before .before .before .before .before .before)), whole (c .before .before .before .before .before .before .before .before .before))
 
--- src/lib.rt:124:25
 cast-put-head : tie.Need-cast-put-head
 cast-put-head c = search needs
 
--- src/lib.rt:124:5
 put-head-requires : tie.Need-put-head-requires
 put-head-requires c κs = (omega (arith, few (c .before .before .before .before .before .before .before .before .before .before .before .before .before), c .before .before .before .pack .ensures .few), rw (c .before .before .before .pack .kept .0) (head (c .before .before .before .before .before .before .before .before .before .before .before .before .before .before .before .before) .ten))
 
--- src/lib.rt:115:1
 same-length : tie.Need-same-length
 same-length c = search needs
 
--- src/lib.rt:115:1
 returns : tie.Need-returns
 returns c =
     let s = c .before .before .before .before .before .before .before .before .before .before .before .before .before .before .before .before .before .before .before in

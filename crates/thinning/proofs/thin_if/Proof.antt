@@ -8,27 +8,21 @@ use borrow.Author.Needs.{needs}
 use Rattle.thinning.proofs.thin_if.Statement.{statement}
 use Rattle.thinning.proofs.thin_if.Tie as tie
 
--- src/lib.rt:200:33
 enum-told : tie.Need-enum-told
 enum-told c = search needs
 
--- src/lib.rt:201:21
 enum-known-t : tie.Need-enum-known-t
 enum-known-t c = search needs
 
--- src/lib.rt:201:27
 thin-requires : tie.Need-thin-requires
 thin-requires c κs = search needs
 
--- src/lib.rt:195:1
 returns : tie.Need-returns
 returns c = search needs
 
--- src/lib.rt:195:1
 same-length : tie.Need-same-length
 same-length c = search needs
 
--- src/lib.rt:195:1
 returns-2 : tie.Need-returns-2
 returns-2 c =
     let s = c .before .before .before .before .before .before .before .before in

@@ -1,0 +1,68 @@
+-- LISTS OF AGINGS. Document 01: "The list may be empty. It holds agings by tolerance and agings by days, refused ones too, on one lent buffer that
+-- begins with an accepted record marked never, the original."
+use mathlib.Core.List.{List, [], _∷_}
+use mathlib.Core.Option.{Option, some, none}
+use mathlib.Core.Bool.{cond}
+use Prim.Native.Nat.{ℕ, _%_, max}
+use lib.Dec.{ltb}
+use Rattle.distance.specs.Fix.{Fix}
+use Rattle.distance.specs.Place.{Time, From, Until}
+use Rattle.record.specs.Format.{never}
+use Rattle.record.specs.Checks.{last-fix}
+use Rattle.thinning.specs.Thinning.{thinned}
+use Rattle.thinning.specs.Aging.{Call, by-tolerance, by-days, left-by, applies}
+
+-- "Every call [..] gets the buffer as the call before it left it, and nobody else writes it meanwhile."
+unfoldable pub run : List ℕ → List Call → List ℕ
+run b [] = b
+run b (c ∷ calls) = run (left-by b c) calls
+
+-- "a plain book, fed each call's arguments and nothing from the program's record. It holds the original's fixes, never changed, and E, at first none."
+pub record Book : Type 0 where
+  pub original : List Fix
+  pub E : Option ℕ
+
+unfoldable pub opened : List Fix → Book
+opened l = record { original = l; E = none }
+
+-- "makes E the greater of E and e, or e if E was none"; a call that applies no tolerance leaves E.
+unfoldable pub greater : Option ℕ → Option ℕ → Option ℕ
+greater E none = E
+greater none (some e) = some e
+greater (some E) (some e) = some (max E e)
+
+-- What a call's arguments make of the book: no bytes are among them.
+unfoldable pub fed : Book → Call → Book
+fed k c = record { original = k .original; E = greater (k .E) (applies c) }
+
+unfoldable pub fed-all : Book → List Call → Book
+fed-all k [] = k
+fed-all k (c ∷ calls) = fed-all (fed k c) calls
+
+-- "those that thinning, as defined above, keeps of the book's fixes at E"; "With E none, the fixes are the book's, the mark is 65,535, and E counts
+-- as 0 in what follows."
+unfoldable pub kept-at : Option ℕ → List Fix → List Fix
+kept-at none l = l
+kept-at (some E) l = thinned E l
+
+unfoldable pub mark-of : Option ℕ → ℕ
+mark-of none = never
+mark-of (some E) = E
+
+unfoldable pub worth : Option ℕ → ℕ
+worth none = 0
+worth (some E) = E
+
+-- A time that is asked of a trail: from its first fix to its last.
+abbrev pub AskedOf : List Fix → Time → Type 0
+AskedOf [] u = ⊥
+AskedOf (a ∷ l) u = From (a .t) u × Until ((last-fix a l) .t) u
+
+-- ---- a list of calls as numbers: below 65,536 a tolerance, from there on 65,536 and days. Every number is a call, and every call of 16 bits has a
+-- number (`number-of` of Laws/Agings.antt).
+unfoldable pub call-of : ℕ → Call
+call-of n = cond (ltb n 65536) (by-tolerance n) (by-days (n % 65536))
+
+unfoldable pub calls-of : List ℕ → List Call
+calls-of [] = []
+calls-of (n ∷ l) = call-of n ∷ calls-of l

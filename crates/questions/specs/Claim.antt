@@ -1,0 +1,50 @@
+-- DEMAND 3, as one claim about a whole list of agings, with every question that may be asked of the record after it.
+-- b is any buffer that begins with an accepted record marked never, the original; calls is any list of agings.
+use mathlib.Core.Path.{_≡_}
+use mathlib.Core.List.{List, [], _∷_}
+use mathlib.Core.Option.{Option, some, none}
+use Prim.Native.Nat.{ℕ}
+use lib.ListN.{length, drop}
+use Rattle.distance.specs.Fix.{Fix}
+use Rattle.distance.specs.Place.{Time, From, Until, place, Near}
+use Rattle.distance.specs.Box.{Box, In, NearBox, NearSide}
+use Rattle.record.specs.Format.{trail, mark-field, length-field, fixes}
+use Rattle.record.specs.Checks.{IsAccepted, bad-window, bad-box, sentence, asked-of}
+use Rattle.record.specs.Answers.{Answer, gives, turns-away}
+use Rattle.record.specs.Laws.First.{FirstHolds}
+use Rattle.thinning.specs.Aging.{Call}
+use Rattle.questions.specs.declared.Fraction.{Fraction}
+use Rattle.questions.specs.Crossing.{Told, Denied, after-first, asked-crossing, cross-answer}
+use Rattle.questions.specs.Agings.{Book, opened, fed-all, run, kept-at, mark-of, worth, AskedOf}
+
+-- What the crossing's answer on the aged record c says of the original, for one window from s to e and one box.
+pub data CrossingSays (E : ℕ) (original : List Fix) (c : List ℕ) (s e : ℕ) (box : Box) : Answer (Option Fraction) → Type 0 where
+  -- turned away by 13 or 14 and by nothing else, the first of the two whose sentence holds
+  says-refused : {k : ℕ} → FirstHolds (sentence trail (asked-of trail c (asked-crossing s e box))) k (bad-window ∷ bad-box ∷ []) → CrossingSays E original c s e box (turns-away k)
+  -- told: true of the aged trail, and at that time the original is within E of the box
+  says-told : {f : Fraction} (t : Told (fixes trail c) box s e (f .num) (f .den)) → NearBox E box (place original (after-first (fixes trail c) (f .num) (f .den) (t .some-denominator)))
+      → CrossingSays E original c s e box (gives (some f))
+  -- denied: true of the aged trail, and whenever in the window the original is in the box, it is at most E from one of the box's sides
+  says-denied : Denied (fixes trail c) box s e → ((u : Time) → From s u → Until e u → In box (place original u) → NearSide E box (place original u)) → CrossingSays E original c s e box (gives none)
+
+-- The book after the list, and the buffer.
+abbrev pub book : List ℕ → List Call → Book
+book b calls = fed-all (opened (fixes trail b)) calls
+
+abbrev pub worth-of : List ℕ → List Call → ℕ
+worth-of b calls = worth ((book b calls) .E)
+
+pub record Claim (b : List ℕ) (calls : List Call) : Type 0 where
+  -- the book's fixes are the original's
+  pub never-changed : (book b calls) .original ≡ fixes trail b
+  -- "After the list, the record's fixes equal those that thinning, as defined above, keeps of the book's fixes at E, and its mark is E."
+  pub still-accepted : IsAccepted trail (run b calls)
+  pub exactly : fixes trail (run b calls) ≡ kept-at ((book b calls) .E) ((book b calls) .original)
+  pub marked : mark-field (run b calls) ≡ mark-of ((book b calls) .E)
+  -- the buffer after the original's record is as it was
+  pub same-size : length (run b calls) ≡ length b
+  pub rest : drop (length-field b) (run b calls) ≡ drop (length-field b) b
+  -- at every fractional time from first to last the two places are at most E apart
+  pub near : (u : Time) → AskedOf ((book b calls) .original) u → Near (worth-of b calls) (place ((book b calls) .original) u) (place (fixes trail (run b calls)) u)
+  -- a crossing told or denied is true of the original within E
+  pub crossings : (s e : ℕ) (box : Box) → CrossingSays (worth-of b calls) ((book b calls) .original) (run b calls) s e box (cross-answer trail (run b calls) s e box)

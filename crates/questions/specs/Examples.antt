@@ -1,0 +1,119 @@
+-- The claim on one buffer: the trail of document 01's rows h to j, never thinned, with two bytes after it. No hypothesis of the claim is empty, and
+-- each list leaves what the table says.
+use mathlib.Core.Path.{_≡_, refl}
+use mathlib.Core.List.{List, [], _∷_}
+use mathlib.Core.Bool.{Bool, true, false, cond}
+use mathlib.Core.Option.{Option, some, none}
+use Prim.Native.Nat.{ℕ}
+use lib.Dec.{ltb}
+use lib.IntN.{pos}
+use borrow.Author.Tests.{ltb-true}
+use Rattle.distance.specs.Distance.{deviation, allowance}
+use Rattle.distance.specs.Box.{Box}
+use Rattle.distance.specs.Laws.All.{all-none, all-more}
+use Rattle.record.specs.Bytes.{number-at, bytes-of, signed, unsigned}
+use Rattle.record.specs.Format.{trail, never, mark-field, fix-at, each, fix-bytes, all-bytes, header-bytes, record-bytes}
+use Rattle.record.specs.Checks.{IsAccepted, sentence, first, some-outside, some-early-after, some-early, last-fix, of-ends}
+use Rattle.record.specs.Answers.{Answer, gives, turns-away}
+use Rattle.record.specs.Laws.Numbers.{false-true}
+use Rattle.record.specs.Laws.RoundTrip.{AreBytes}
+use Rattle.thinning.specs.Thinning.{sooner, furthest, every, but-last, last, thin-span, thin, thinning}
+use Rattle.thinning.specs.Aging.{Call, by-tolerance, by-days, new-mark, thinned-record, last-row}
+use Rattle.questions.specs.declared.Fraction.{Fraction}
+use Rattle.questions.specs.Legs.{first-crossing, first-from, leg-first, leg-times, axis-times, first-of, later-of, earlier-of}
+use Rattle.questions.specs.Crossing.{cross-answer}
+use Rattle.questions.specs.Agings.{run}
+use Rattle.questions.specs.Claim.{Claim}
+use Rattle.questions.specs.Laws.Claim.{claim}
+
+abbrev pub lent : List ℕ
+lent =
+    42 ∷ 0 ∷ 0 ∷ 0 ∷ 1 ∷ 0 ∷ 255 ∷ 255 ∷ 4 ∷ 0
+    ∷ 0 ∷ 0 ∷ 0 ∷ 0 ∷ 0 ∷ 0 ∷ 0 ∷ 0
+    ∷ 10 ∷ 0 ∷ 0 ∷ 0 ∷ 20 ∷ 0 ∷ 0 ∷ 0
+    ∷ 20 ∷ 0 ∷ 0 ∷ 0 ∷ 20 ∷ 0 ∷ 0 ∷ 0
+    ∷ 30 ∷ 0 ∷ 0 ∷ 0 ∷ 0 ∷ 0 ∷ 0 ∷ 0
+    ∷ 7 ∷ 9 ∷ []
+
+-- the same after thinning at 25: the first and the last fix, marked 25; each call leaves the bytes from its new length on as they were before it,
+-- and a call that thins at 12 in between closes three fixes up
+abbrev pub two-fixes : List ℕ → List ℕ
+two-fixes rest = 26 ∷ 0 ∷ 0 ∷ 0 ∷ 1 ∷ 0 ∷ 25 ∷ 0 ∷ 2 ∷ 0 ∷ 0 ∷ 0 ∷ 0 ∷ 0 ∷ 0 ∷ 0 ∷ 0 ∷ 0 ∷ 30 ∷ 0 ∷ 0 ∷ 0 ∷ 0 ∷ 0 ∷ 0 ∷ 0 ∷ rest
+
+abbrev pub old-rest : List ℕ
+old-rest = 30 ∷ 0 ∷ 0 ∷ 0 ∷ 0 ∷ 0 ∷ 0 ∷ 0 ∷ 7 ∷ 9 ∷ []
+
+abbrev pub left-at-25 : List ℕ
+left-at-25 = two-fixes (20 ∷ 0 ∷ 0 ∷ 0 ∷ 20 ∷ 0 ∷ 0 ∷ 0 ∷ old-rest)
+
+abbrev pub left-at-12-and-25 : List ℕ
+left-at-12-and-25 = two-fixes (30 ∷ 0 ∷ 0 ∷ 0 ∷ 0 ∷ 0 ∷ 0 ∷ 0 ∷ old-rest)
+
+-- ---- what the claim asks
+pub lent-accepted : IsAccepted trail lent
+unfolding first sentence some-outside some-early-after some-early last-fix of-ends fix-at each number-at signed
+lent-accepted = record { accepted = refl }
+
+all-below : List ℕ → Bool
+all-below [] = true
+all-below (n ∷ l) = cond (ltb n 256) (all-below l) false
+
+are-bytes : (l : List ℕ) → all-below l ≡ true → AreBytes l
+unfolding all-below
+are-bytes [] h = all-none
+are-bytes (n ∷ l) h = go (ltb n 256) refl h (are-bytes l)
+  where
+    go : (b : Bool) → ltb n 256 ≡ b → cond b (all-below l) false ≡ true → (all-below l ≡ true → AreBytes l) → AreBytes (n ∷ l)
+    go true e k r = all-more (ltb-true n 256 e) (r k)
+    go false e k r = absurd (false-true k)
+
+pub lent-bytes : AreBytes lent
+unfolding all-below
+lent-bytes = are-bytes lent refl
+
+pub lent-never : mark-field lent ≡ never
+unfolding number-at
+lent-never = refl
+
+-- ---- the claim holds of every list of calls on it; each of these leaves the bytes beside it
+pub on-lent : (calls : List Call) → Claim lent calls
+on-lent calls = claim lent calls lent-bytes lent-accepted lent-never
+
+pub record Left : Type 0 where
+  pub calls : List Call
+  pub bytes : List ℕ
+
+abbrev pub rows : List Left
+rows =
+    record { calls = []; bytes = lent }
+    -- refused: 32,001 is above 32,000
+    ∷ record { calls = by-tolerance 32001 ∷ []; bytes = lent }
+    ∷ record { calls = by-tolerance 25 ∷ by-tolerance 12 ∷ []; bytes = left-at-25 }
+    ∷ record { calls = by-tolerance 12 ∷ by-tolerance 25 ∷ []; bytes = left-at-12-and-25 }
+    -- days 0 and 1 leave the record, day 7 thins at 25
+    ∷ record { calls = by-days 1 ∷ []; bytes = lent }
+    ∷ record { calls = by-days 7 ∷ by-tolerance 65535 ∷ by-days 2 ∷ []; bytes = left-at-25 }
+    ∷ []
+
+abbrev pub computed : List Left → List (List ℕ)
+computed [] = []
+computed (r ∷ l) = run lent (r .calls) ∷ computed l
+
+abbrev pub told : List Left → List (List ℕ)
+told [] = []
+told (r ∷ l) = r .bytes ∷ told l
+
+pub examples : computed rows ≡ told rows
+unfolding run thinned-record new-mark last-row thinning thin thin-span furthest sooner every but-last last deviation allowance first sentence some-outside some-early-after some-early last-fix of-ends fix-at each number-at signed unsigned bytes-of fix-bytes all-bytes header-bytes record-bytes
+examples = refl
+
+-- ---- the crossing on it: the original reaches x = 20, what is left at 25 does not
+abbrev pub shelf : Box
+shelf = record { x-low = pos 10; x-high = pos 20; y-low = pos 0; y-high = pos 0 }
+
+abbrev pub answers : List (Answer (Option Fraction))
+answers = cross-answer trail lent 0 30 shelf ∷ cross-answer trail left-at-25 0 30 shelf ∷ cross-answer trail lent 0 31 shelf ∷ []
+
+pub crossings : answers ≡ gives (some (record { num = 100; den = 20 })) ∷ gives none ∷ turns-away 13 ∷ []
+unfolding first sentence some-outside some-early-after some-early last-fix of-ends fix-at each number-at signed first-crossing first-from leg-first leg-times axis-times first-of later-of earlier-of
+crossings = refl

@@ -1,0 +1,183 @@
+-- What a list of agings leaves, by the step of every call.
+use mathlib.Core.Path.{_≡_, refl, sym, _∙_, ap}
+use mathlib.Core.List.{List, [], _∷_, _++_}
+use mathlib.Core.Option.{Option, some, none}
+use Prim.Native.Nat.{ℕ, _+_, _*_, _-_, _%_, _<_, _≤_, max}
+use native.Mathlib.Omega.{arith}
+use lib.ListN.{length, getD, take, drop}
+use lib.Seq.{drop-drop, take-suc, take-all}
+use native.Mathlib.Numerals.{add-one}
+use borrow.Author.Tests.{ne-eqb, lt-ltb, le-ltb}
+use Rattle.distance.specs.Fix.{Fix, Rising}
+use Rattle.distance.specs.Place.{Time, place, Near}
+use Rattle.distance.specs.Laws.All.{All, all-none, all-more}
+use Rattle.distance.specs.Laws.Near.{near-self}
+use Rattle.record.specs.Format.{trail, never, mark-field, count-field, length-field, fixes, fix-at}
+use Rattle.record.specs.Checks.{IsAccepted}
+use Rattle.record.specs.Laws.Each.{length-each}
+use Rattle.record.specs.Laws.First.{some-none}
+use Rattle.record.specs.Laws.RoundTrip.{AreBytes}
+use Rattle.record.specs.Laws.Accepted.{accepted-good}
+use Rattle.thinning.specs.Thinning.{thinned}
+use Rattle.thinning.specs.Aging.{Call, by-tolerance, by-days, left-by, applies, new-mark, record-at, thinned-record}
+use Rattle.thinning.specs.Laws.Trail.{again, no-more}
+use Rattle.thinning.specs.Laws.Near.{thinned-near}
+use Rattle.thinning.specs.Laws.Step.{thins, step, applies-low}
+use Rattle.questions.specs.Agings.{run, Book, opened, greater, fed, fed-all, kept-at, mark-of, worth, AskedOf, call-of, calls-of}
+
+-- ---- what the buffer is after some of the calls: b is the original's buffer, c the present one
+pub record State (b c : List ℕ) (E : Option ℕ) : Type 0 where
+  pub still-accepted : IsAccepted trail c
+  pub still-bytes : AreBytes c
+  pub exactly : fixes trail c ≡ kept-at E (fixes trail b)
+  pub marked : mark-field c ≡ mark-of E
+  pub same-size : length c ≡ length b
+  pub rest : drop (length-field b) c ≡ drop (length-field b) b
+  pub low : (e : ℕ) → E ≡ some e → e ≤ 32000
+
+-- the greater of none and e, and of two
+kept-again : (E : Option ℕ) (e : ℕ) (l : List Fix) → thinned e (kept-at E l) ≡ kept-at (greater E (some e)) l
+unfolding kept-at greater
+kept-again none e l = refl
+kept-again (some E) e l = again E e l
+
+mark-again : (E : Option ℕ) (e : ℕ) → ((m : ℕ) → E ≡ some m → m ≤ 32000) → new-mark (mark-of E) e ≡ mark-of (greater E (some e))
+unfolding new-mark mark-of greater
+mark-again none e low = refl
+mark-again (some E) e low = let h = low E refl in rw (ne-eqb E 65535 (λ z. omega arith)) refl
+
+low-again : (E : Option ℕ) (e : ℕ) → ((m : ℕ) → E ≡ some m → m ≤ 32000) → e ≤ 32000 → (m : ℕ) → greater E (some e) ≡ some m → m ≤ 32000
+unfolding greater
+low-again none e low h m z = let y : e ≡ m = cc in omega arith
+low-again (some E) e low h m z = let y : max E e ≡ m = cc in let g = low E refl in omega arith
+
+greater-none : (E : Option ℕ) → greater E none ≡ E
+unfolding greater
+greater-none none = refl
+greater-none (some E) = refl
+
+-- fewer fixes than the original has
+kept-fewer : (E : Option ℕ) (l : List Fix) → length (kept-at E l) ≤ length l
+unfolding kept-at
+kept-fewer none l = omega arith
+kept-fewer (some E) l = no-more E l
+
+drop-further : (b c : List ℕ) (m n : ℕ) → m ≤ n → drop m c ≡ drop m b → drop n c ≡ drop n b
+drop-further b c m n h e =
+    let k : m + (n - m) ≡ n = omega arith in
+    let f : (l : List ℕ) → drop n l ≡ drop (n - m) (drop m l) = λ l. sym (drop-drop (n - m) m l ∙ rw k refl) in
+    f c ∙ ap (drop (n - m)) e ∙ sym (f b)
+
+-- ---- one call
+thinned-state : (b c : List ℕ) (E : Option ℕ) (e : ℕ) → IsAccepted trail b → State b c E → e ≤ 32000 → State b (thinned-record c e) (greater E (some e))
+thinned-state b c E e a s h =
+    let t = thins c e (s .still-bytes) (s .still-accepted) h in
+    let g = accepted-good b a .head in
+    let n : length (fixes trail b) ≡ count-field b = length-each (fix-at trail b) 0 (count-field b) in
+    let k : thinned e (fixes trail c) ≡ kept-at (greater E (some e)) (fixes trail b) = rw (s .exactly) (kept-again E e (fixes trail b)) in
+    let fewer = kept-fewer (greater E (some e)) (fixes trail b) in
+    let short : 10 + 8 * length (thinned e (fixes trail c)) ≤ length-field b = rw k (omega (arith, g .length-is)) in
+    record {
+      still-accepted = t .still-accepted;
+      still-bytes = t .bytes-still;
+      exactly = t .fixes-are ∙ k;
+      marked = t .mark-is ∙ rw (s .marked) (mark-again E e (s .low));
+      same-size = t .same-size ∙ s .same-size;
+      rest = drop-further c (thinned-record c e) _ (length-field b) short (t .rest-is) ∙ s .rest;
+      low = low-again E e (s .low) h;
+    }
+
+one-call : (b c : List ℕ) (E : Option ℕ) (d : Call) → IsAccepted trail b → State b c E → State b (left-by c d) (greater E (applies d))
+one-call b c E d a s = rw (step c d (s .still-accepted)) (go (applies d) (λ e z. applies-low d e z))
+  where
+    go : (t : Option ℕ) → ((e : ℕ) → t ≡ some e → e ≤ 32000) → State b (record-at t c) (greater E t)
+    go none low = rw (greater-none E) s
+    go (some e) low = thinned-state b c E e a s (low e refl)
+
+-- ---- the whole list
+pub original-stays : (k : Book) (calls : List Call) → (fed-all k calls) .original ≡ k .original
+unfolding fed-all fed
+original-stays k [] = refl
+original-stays k (c ∷ calls) = original-stays (fed k c) calls
+
+all-calls : (b c : List ℕ) (k : Book) (calls : List Call) → IsAccepted trail b → State b c (k .E) → State b (run c calls) ((fed-all k calls) .E)
+unfolding run fed-all fed
+all-calls b c k [] a s = s
+all-calls b c k (d ∷ calls) a s = all-calls b (left-by c d) (fed k d) calls a (one-call b c (k .E) d a s)
+
+-- the original itself, marked never
+begins : (b : List ℕ) → AreBytes b → IsAccepted trail b → mark-field b ≡ never → State b b none
+unfolding kept-at mark-of
+begins b bytes a m = record { still-accepted = a; still-bytes = bytes; exactly = refl; marked = m; same-size = refl; rest = refl; low = λ e z. absurd (some-none (sym z)) }
+
+pub agings : (b : List ℕ) (calls : List Call) → AreBytes b → IsAccepted trail b → mark-field b ≡ never → State b (run b calls) ((fed-all (opened (fixes trail b)) calls) .E)
+unfolding opened
+agings b calls bytes a m = all-calls b b (opened (fixes trail b)) calls a (begins b bytes a m)
+
+-- ---- at every fractional time of the trail
+pub kept-near : (E : Option ℕ) (l : List Fix) (u : Time) → Rising l → AskedOf l u → Near (worth E) (place l u) (place (kept-at E l) u)
+unfolding kept-at worth
+kept-near none l u h t = near-self 0 (place l u)
+kept-near (some E) (a ∷ l) u h t = thinned-near E u a l h (t .0)
+
+-- E is the greatest tolerance applied: each is at most E, and E is one of them or none was.
+greater-left : (E t : Option ℕ) → worth E ≤ worth (greater E t)
+unfolding greater worth
+greater-left E none = omega arith
+greater-left none (some e) = omega arith
+greater-left (some E) (some e) = omega arith
+
+greater-right : (E t : Option ℕ) → worth t ≤ worth (greater E t)
+unfolding greater worth
+greater-right E none = omega arith
+greater-right none (some e) = omega arith
+greater-right (some E) (some e) = omega arith
+
+grows : (k : Book) (calls : List Call) → worth (k .E) ≤ worth ((fed-all k calls) .E)
+unfolding fed-all fed
+grows k [] = omega arith
+grows k (c ∷ calls) = omega (arith, greater-left (k .E) (applies c), grows (fed k c) calls)
+
+pub at-most-E : (k : Book) (calls : List Call) → All (λ (c : Call). worth (applies c) ≤ worth ((fed-all k calls) .E)) calls
+unfolding fed-all fed
+at-most-E k [] = all-none
+at-most-E k (c ∷ calls) = all-more {m = c} (omega (arith, greater-right (k .E) (applies c), grows (fed k c) calls)) (at-most-E (fed k c) calls)
+
+-- ---- calls as numbers
+pub is-tolerance : (n : ℕ) → n < 65536 → call-of n ≡ by-tolerance n
+unfolding call-of
+is-tolerance n h = rw (lt-ltb n 65536 h) refl
+
+pub is-days : (n : ℕ) → 65536 ≤ n → call-of n ≡ by-days (n % 65536)
+unfolding call-of
+is-days n h = rw (le-ltb n 65536 h) refl
+
+-- a call with an argument of 16 bits
+pub data SixteenBits : Call → Type 0 where
+  tolerance-16 : {e : ℕ} → e < 65536 → SixteenBits (by-tolerance e)
+  days-16 : {d : ℕ} → d < 65536 → SixteenBits (by-days d)
+
+pub number-of : {c : Call} → SixteenBits c → (n : ℕ) × (n < 131072) × (call-of n ≡ c)
+number-of (tolerance-16 {e} h) = (e, omega arith, is-tolerance e h)
+number-of (days-16 {d} h) = let m : (65536 + d) % 65536 ≡ d = omega arith in (65536 + d, omega arith, is-days (65536 + d) (omega arith) ∙ ap by-days m)
+
+-- one call more, at the end
+calls-more : (l : List ℕ) (n : ℕ) → calls-of (l ++ n ∷ []) ≡ calls-of l ++ call-of n ∷ []
+unfolding calls-of
+calls-more [] n = refl
+calls-more (m ∷ l) n = ap (λ (r : List Call). call-of m ∷ r) (calls-more l n)
+
+run-more : (b : List ℕ) (l : List Call) (c : Call) → run b (l ++ c ∷ []) ≡ left-by (run b l) c
+unfolding run
+run-more b [] c = refl
+run-more b (d ∷ l) c = run-more (left-by b d) l c
+
+pub run-none : (b l : List ℕ) → b ≡ run b (calls-of (take 0 l))
+unfolding run calls-of
+run-none b l = refl
+
+pub run-next : (b l : List ℕ) (i : ℕ) → i < length l → left-by (run b (calls-of (take i l))) (call-of (getD l i 0)) ≡ run b (calls-of (take (i + 1) l))
+run-next b l i h = sym (rw (add-one, take-suc l i 0 h, calls-more (take i l) (getD l i 0)) (run-more b (calls-of (take i l)) (call-of (getD l i 0))))
+
+pub run-all : (b l : List ℕ) (i : ℕ) → length l ≤ i → run b (calls-of (take i l)) ≡ run b (calls-of l)
+run-all b l i h = rw (take-all i l h) refl

@@ -1,0 +1,131 @@
+-- THE CLAIM holds of every list of agings.
+use mathlib.Core.Path.{_≡_, refl, sym, _∙_, ap}
+use mathlib.Core.Bool.{Bool, false, _||_}
+use mathlib.Core.List.{List, [], _∷_}
+use mathlib.Core.Option.{Option, some, none}
+use Prim.Native.Nat.{ℕ, _*_, _≤_}
+use native.Mathlib.Nat.{mul-le-mul-left}
+use native.Mathlib.Omega.{arith}
+use lib.Dec.{ltb}
+use lib.ListN.{length}
+use Rattle.distance.specs.Fix.{Fix, Rising}
+use Rattle.distance.specs.Place.{Proper, Time, From, Until, place, Near}
+use Rattle.distance.specs.Box.{Box, In, NearBox, NearSide}
+use Rattle.distance.specs.Laws.Box.{told, denied}
+use Rattle.distance.specs.Laws.Place.{place-proper}
+use Rattle.record.specs.Format.{trail, never, mark-field, count-field, fixes, fix-at}
+use Rattle.record.specs.Laws.Each.{length-each}
+use Rattle.record.specs.Checks.{Asked as Asked15, IsAccepted, bad-window, bad-box, sentence, asked-of, refusal, crossing, last-fix, of-ends, second-outside}
+use Rattle.record.specs.Answers.{gives, answer}
+use Rattle.record.specs.Laws.First.{first-exactly, NoneHolds, and-not, none-holds}
+use Rattle.record.specs.Laws.RoundTrip.{AreBytes}
+use Rattle.record.specs.Laws.Accepted.{accepted-good, times-good}
+use Rattle.thinning.specs.Aging.{Call}
+use Rattle.thinning.specs.Laws.Trail.{SameEnds, no-fixes, same-ends, ends-stay, kept-rising}
+use Rattle.questions.specs.declared.Fraction.{Fraction}
+use Rattle.questions.specs.Crossing.{Told, Denied, Means, after-first, asked-crossing, cross-answer}
+use Rattle.questions.specs.Legs.{first-crossing}
+use Rattle.questions.specs.Agings.{opened, run, kept-at, worth, AskedOf}
+use Rattle.questions.specs.Claim.{CrossingSays, says-refused, says-told, says-denied, book, Claim}
+use Rattle.questions.specs.Laws.Agings.{agings, kept-near, original-stays}
+use Rattle.questions.specs.Laws.Crossing.{GoodWindow}
+use Rattle.questions.specs.Laws.Checking.{window-good, two-left, answer-means}
+
+-- ---- the kept trail begins and ends where the original does
+kept-ends : (E : Option ℕ) (l : List Fix) → SameEnds l (kept-at E l)
+unfolding kept-at
+kept-ends none [] = no-fixes
+kept-ends none (a ∷ l) = same-ends refl
+kept-ends (some E) l = ends-stay E l
+
+kept-rises : (E : Option ℕ) (l : List Fix) → Rising l → Rising (kept-at E l)
+unfolding kept-at
+kept-rises none l h = h
+kept-rises (some E) l h = kept-rising E l h
+
+-- a time of a window that lies in the kept trail's times is asked of the original
+asked-in : {l : List Fix} {a : Fix} {k : List Fix} → SameEnds l (a ∷ k) → (s e : ℕ) → GoodWindow s e (a .t) ((last-fix a k) .t) → (u : Time) → From s u → Until e u → AskedOf l u
+asked-in (same-ends {i} {l} {k} h) s e q u f t =
+    let last : (last-fix i l) .t ≡ (last-fix i k) .t = ap (λ (x : Fix). x .t) (sym h) in
+    (record { from = omega (arith, mul-le-mul-left (u .q) (q .from), f .from) }, record { until = omega (arith, mul-le-mul-left (u .q) (q .to), t .until, ap (λ (x : ℕ). u .q * x) last) })
+
+-- ---- the window's sentence, of a list of fixes
+abbrev window-bad : List Fix → (s e : ℕ) → Bool
+window-bad l s e = ltb e s || (of-ends (second-outside s) l || of-ends (second-outside e) l)
+
+window-says : (c : List ℕ) (s e : ℕ) (box : Box) → sentence trail (asked-of trail c (asked-crossing s e box)) bad-window ≡ false → window-bad (fixes trail c) s e ≡ false
+unfolding sentence
+window-says c s e box h = h
+
+window-asked : (a : Fix) (l : List Fix) (s e : ℕ) → window-bad (a ∷ l) s e ≡ false → GoodWindow s e (a .t) ((last-fix a l) .t)
+unfolding of-ends
+window-asked a l s e h = window-good s e (a .t) ((last-fix a l) .t) h
+
+module _ (E : Option ℕ) (l m : List Fix) (rises : Rising l) (is : m ≡ kept-at E l) (some-fix : 1 ≤ length m) (s e : ℕ) (box : Box) (window : window-bad m s e ≡ false) where
+  -- the window is of the original's times too
+  of-original : (u : Time) → From s u → Until e u → AskedOf l u
+  of-original u f t = go m is some-fix window
+    where
+      go : (k : List Fix) → k ≡ kept-at E l → 1 ≤ length k → window-bad k s e ≡ false → AskedOf l u
+      go [] z n w = absurd (omega (arith, n))
+      go (a ∷ k) z n w = asked-in (rw (sym z) at (kept-ends E l)) s e (window-asked a k s e w) u f t
+
+  near-then : (u : Time) → From s u → Until e u → Near (worth E) (place l u) (place m u)
+  near-then u f t = rw is (kept-near E l u rises (of-original u f t))
+
+  proper-then : (u : Time) → Proper (place m u)
+  proper-then u = place-proper u (rw is (kept-rises E l rises))
+
+  told-near : (n d : ℕ) (t : Told m box s e n d) → NearBox (worth E) box (place l (after-first m n d (t .some-denominator)))
+  told-near n d t =
+      let u = after-first m n d (t .some-denominator) in
+      told (worth E) box (place l u) (place m u) (near-then u (t .crosses .opened) (t .crosses .closed)) (proper-then u) (t .crosses .inside)
+
+  denied-near : Denied m box s e → (u : Time) → From s u → Until e u → In box (place l u) → NearSide (worth E) box (place l u)
+  denied-near never-in u f t i = denied (near-then u f t) (place-proper u rises) (proper-then u) box i (λ j. never-in u (record { opened = f; closed = t; inside = j }))
+
+-- ---- the crossing's answer on a trail that was kept at E
+module _ (E : Option ℕ) (l : List Fix) (c : List ℕ) (rises : Rising l) (a : IsAccepted trail c) (is : fixes trail c ≡ kept-at E l) (s e : ℕ) (box : Box) where
+  abbrev q : Asked15
+  q = asked-of trail c (asked-crossing s e box)
+
+  abbrev m : List Fix
+  m = fixes trail c
+
+  some-fix-left : 1 ≤ length m
+  some-fix-left = let g = accepted-good c a .head in omega (arith, g .some-fix, length-each (fix-at trail c) 0 (count-field c))
+
+  say : window-bad m s e ≡ false → (o : Option Fraction) → Means m box s e o → CrossingSays (worth E) l c s e box (gives o)
+  say w (some f) t = says-told t (told-near E l m rises is some-fix-left s e box w (f .num) (f .den) t)
+  say w none d = says-denied d (denied-near E l m rises is some-fix-left s e box w d)
+
+  window-false : NoneHolds (sentence trail q) (bad-window ∷ bad-box ∷ []) → window-bad m s e ≡ false
+  window-false (and-not w r) = window-says c s e box w
+
+  crossing-says : CrossingSays (worth E) l c s e box (cross-answer trail c s e box)
+  crossing-says = go (refusal trail crossing q) refl
+    where
+      go : (r : Option ℕ) → refusal trail crossing q ≡ r → CrossingSays (worth E) l c s e box (answer r (first-crossing 16000 m box s e))
+      go (some k) h = says-refused (first-exactly (sentence trail q) k (bad-window ∷ bad-box ∷ []) .0 (sym (two-left c s e box a) ∙ h))
+      go none h =
+          let w = window-false (none-holds (sentence trail q) (bad-window ∷ bad-box ∷ []) (sym (two-left c s e box a) ∙ h)) in
+          let f = first-crossing 16000 m box s e in
+          say w f (answer-means c s e box f (ap (λ (r : Option ℕ). answer r f) h))
+
+-- ---- DEMAND 3
+pub claim : (b : List ℕ) (calls : List Call) → AreBytes b → IsAccepted trail b → mark-field b ≡ never → Claim b calls
+unfolding opened
+claim b calls bytes a never-thinned =
+    let s = agings b calls bytes a never-thinned in
+    let o : (book b calls) .original ≡ fixes trail b = original-stays (opened (fixes trail b)) calls in
+    let rises = times-good (fixes trail b) (accepted-good b a .trail-good .ordered) in
+    record {
+      never-changed = o;
+      still-accepted = s .still-accepted;
+      exactly = s .exactly ∙ sym (ap (kept-at ((book b calls) .E)) o);
+      marked = s .marked;
+      same-size = s .same-size;
+      rest = s .rest;
+      near = λ u t. rw (o, s .exactly) (kept-near ((book b calls) .E) (fixes trail b) u rises (rw o at t));
+      crossings = λ t e box. rw o (crossing-says ((book b calls) .E) (fixes trail b) (run b calls) rises (s .still-accepted) (s .exactly) t e box);
+    }
