@@ -1,5 +1,7 @@
 -- What a list of agings leaves, by the step of every call.
 use mathlib.Core.Path.{_≡_, refl, sym, _∙_, ap}
+use mathlib.Core.Logic.{_⊎_, inl, inr, ⊎-elim}
+use mathlib.Core.Bool.{Bool}
 use mathlib.Core.List.{List, [], _∷_, _++_}
 use mathlib.Core.Option.{Option, some, none}
 use Prim.Native.Nat.{ℕ, _+_, _*_, _-_, _%_, _<_, _≤_, max}
@@ -10,6 +12,7 @@ use native.Mathlib.Numerals.{add-one}
 use borrow.Author.Tests.{ne-eqb, lt-ltb, le-ltb}
 use Rattle.distance.specs.Fix.{Fix, Rising}
 use Rattle.distance.specs.Place.{Time, place, Near}
+use Rattle.distance.specs.Integers.Tests.{Test, holds, fails, test}
 use Rattle.distance.specs.Laws.All.{All, all-none, all-more}
 use Rattle.distance.specs.Laws.Near.{near-self}
 use Rattle.record.specs.Format.{trail, never, mark-field, count-field, length-field, fixes, fix-at}
@@ -120,7 +123,7 @@ unfolding kept-at worth
 kept-near none l u h t = near-self 0 (place l u)
 kept-near (some E) (a ∷ l) u h t = thinned-near E u a l h (t .0)
 
--- E is the greatest tolerance applied: each is at most E, and E is one of them or none was.
+-- E IS THE GREATEST TOLERANCE APPLIED: each is at most E, and E is one of them or none was.
 greater-left : (E t : Option ℕ) → worth E ≤ worth (greater E t)
 unfolding greater worth
 greater-left E none = omega arith
@@ -142,6 +145,27 @@ pub at-most-E : (k : Book) (calls : List Call) → All (λ (c : Call). worth (ap
 unfolding fed-all fed
 at-most-E k [] = all-none
 at-most-E k (c ∷ calls) = all-more {m = c} (omega (arith, greater-right (k .E) (applies c), grows (fed k c) calls)) (at-most-E (fed k c) calls)
+
+greater-one : (E t : Option ℕ) → (greater E t ≡ E) ⊎ (t ≡ greater E t)
+unfolding greater
+greater-one E none = inl (greater-none E)
+greater-one none (some e) = inr refl
+greater-one (some E) (some e) = go (test E e)
+  where
+    go : {b : Bool} → Test E e b → (some (max E e) ≡ some E) ⊎ (some e ≡ some (max E e))
+    go (holds h) = let z : e ≡ max E e = omega arith in inr (ap some z)
+    go (fails h) = let z : max E e ≡ E = omega arith in inl (ap some z)
+
+-- a call of the list applied E
+pub data Applied (E : Option ℕ) : List Call → Type 0 where
+  this-call : {c : Call} {l : List Call} → applies c ≡ E → Applied E (c ∷ l)
+  later-call : {c : Call} {l : List Call} → Applied E l → Applied E (c ∷ l)
+
+pub E-applied : (k : Book) (calls : List Call) → ((fed-all k calls) .E ≡ k .E) ⊎ Applied ((fed-all k calls) .E) calls
+unfolding fed-all fed
+E-applied k [] = inl refl
+E-applied k (c ∷ calls) =
+    ⊎-elim (λ h. ⊎-elim (λ g. inl (h ∙ g)) (λ g. inr (this-call (g ∙ sym h))) (greater-one (k .E) (applies c))) (λ a. inr (later-call a)) (E-applied (fed k c) calls)
 
 -- ---- calls as numbers
 pub is-tolerance : (n : ℕ) → n < 65536 → call-of n ≡ by-tolerance n
