@@ -2,14 +2,19 @@
 use mathlib.Core.List.{List}
 use mathlib.Core.Option.{Option, some, none}
 use Prim.Native.Nat.{ℕ}
-use lib.IntN.{pos}
+use lib.IntN.{ℤ, pos, natAbs}
 use Rattle.distance.specs.Fix.{Fix}
+use Rattle.distance.specs.Box.{Box}
 use Rattle.record.specs.Format.{trail, count-field, mark-field}
 use Rattle.record.specs.Checks.{read-refusal}
 use Rattle.record.specs.Answers.{Answer, gives, turns-away}
+use Rattle.questions.specs.Moment.{Standing}
+use Rattle.questions.specs.declared.Fraction.{Fraction}
 use Rattle.export.specs.declared.Head.{Head}
 use Rattle.export.specs.declared.Step.{Step}
 use Rattle.export.specs.declared.Answer.{Answer as Numbers}
+use Rattle.export.specs.declared.Spot.{Spot}
+use Rattle.export.specs.declared.Crossing.{Crossing}
 
 -- A record's count and mark, unless it is turned away.
 abbrev pub checked : Option ℕ → List ℕ → Head
@@ -28,3 +33,17 @@ step (some f) = record { found = 1; t = f .t; x = f .x; y = f .y }
 abbrev pub answer : Answer ℕ → Numbers
 answer (gives n) = record { refusal = 0; value = n }
 answer (turns-away k) = record { refusal = k; value = 0 }
+
+-- A place's fraction, whose denominator is at least 1, and the rounded place, unless there is a refusal.
+abbrev pub spot : Answer Standing → Spot
+spot (gives s) = record { refusal = 0; denominator = natAbs (s .exact .d); x = s .exact .x; y = s .exact .y; «whole_x» = s .x; «whole_y» = s .y }
+spot (turns-away k) = record { refusal = k; denominator = 0; x = pos 0; y = pos 0; «whole_x» = pos 0; «whole_y» = pos 0 }
+
+-- Yes with its time or no, unless there is a refusal.
+abbrev pub crossing : Answer (Option Fraction) → Crossing
+crossing (gives (some f)) = record { refusal = 0; crosses = 1; numerator = f .num; denominator = f .den }
+crossing (gives none) = record { refusal = 0; crosses = 0; numerator = 0; denominator = 0 }
+crossing (turns-away k) = record { refusal = k; crosses = 0; numerator = 0; denominator = 0 }
+
+abbrev pub box : (left right bottom top : ℤ) → Box
+box left right bottom top = record { x-low = left; x-high = right; y-low = bottom; y-high = top }

@@ -18,10 +18,17 @@ use Rattle.record.specs.Writing.{write-refusal, write-answer}
 use Rattle.record.specs.Laws.First.{some-none, stops, FirstHolds, this, not-before, first-exactly}
 use Rattle.record.specs.Laws.Head.{says, few}
 use Rattle.record.specs.Laws.Reading.{of-head-field}
+use Rattle.distance.specs.Box.{Box}
+use Rattle.questions.specs.Crossing.{cross-answer}
+use Rattle.questions.specs.declared.Spot.{Spot}
+use Rattle.questions.specs.declared.Placed.{Placed}
+use Rattle.questions.specs.declared.Placed.the-variants as Place
+use Rattle.questions.specs.Answers.{placed}
 use Rattle.thinning.specs.Aging.{age-refusal, age-answer, days-refusal, days-answer}
 use Rattle.export.specs.declared.Head.{Head}
 use Rattle.export.specs.declared.Step.{Step}
-use Rattle.export.specs.Interface.{checked, head, step, answer}
+use Rattle.export.specs.declared.Spot.{Spot as Numbers}
+use Rattle.export.specs.Interface.{checked, head, step, answer, spot, box}
 
 -- ---- 0 is none
 counted : (c : Check) → 1 ≤ number c
@@ -94,3 +101,14 @@ module _ (b : List ℕ) where
 
   pub head-accepted : (n m : ℕ) → n ≡ of-head count-field b → m ≡ of-head mark-field b → read-refusal trail b ≡ none → _≡_ {A = Head} (record { refusal = 0; count = n; mark = m }) (head b)
   head-accepted n m en em h = rw (h, en, em, of-head-field count-field b (ten h), of-head-field mark-field b (ten h)) refl
+
+-- ---- the questions: a place as numbers, and the same bytes, window and box give the same crossing
+pub spot-at : (s : Spot) (x y p q : ℤ) (a : Placed) → x ≡ s .x → y ≡ s .y → p ≡ s .whole .x .0 → q ≡ s .whole .y .0 → a ≡ Place.At s
+    → _≡_ {A = Numbers} (record { refusal = 0; denominator = s .d; x = x; y = y; «whole_x» = p; «whole_y» = q }) (spot (placed a))
+spot-at s x y p q a ex ey ep eq h = rw (ex, ey, ep, eq, h) refl
+
+pub same-crossing : {b c : List ℕ} {s t e f : ℕ} {p q : Box} → b ≡ c → s ≡ t → e ≡ f → p ≡ q → cross-answer trail b s e p ≡ cross-answer trail c t f q
+same-crossing h k m n = rw (h, k, m, n) refl
+
+pub same-box : {x y z w a b c d : ℤ} → x ≡ a → y ≡ b → z ≡ c → w ≡ d → box x y z w ≡ box a b c d
+same-box h k m n = rw (h, k, m, n) refl

@@ -1,5 +1,7 @@
 // The interface for programs in other languages: thin functions over the layers, with numbers for answers. A refusal is its number, and 0 is none.
 // None asks anything of its caller, since nothing would check that. include/trails.h says the same to a C programmer.
+mod questions_of;
+
 use distance::Centimetres;
 use distance::Tolerance;
 use thinning::Aged;
@@ -34,6 +36,26 @@ pub struct Step {
 pub struct Answer {
     pub refusal: u32,
     pub value: u32,
+}
+
+// A refusal, or the place (x/denominator, y/denominator) and the rounded one.
+#[repr(C)]
+pub struct Spot {
+    pub refusal: u32,
+    pub denominator: u32,
+    pub x: i64,
+    pub y: i64,
+    pub whole_x: i32,
+    pub whole_y: i32,
+}
+
+// A refusal, or whether the box is crossed and then the time numerator/denominator, in seconds after the first fix.
+#[repr(C)]
+pub struct Crossing {
+    pub refusal: u32,
+    pub crosses: u32,
+    pub numerator: u32,
+    pub denominator: u32,
 }
 
 fn wide(k: u8) -> u32

@@ -24,7 +24,7 @@ pub worked-k : beside (at-moment (fix 0 (pos 0) (pos 0) ∷ fix 10 (pos 5) (negs
 unfolding at-moment moment-from on-leg own rounded floored
 worked-k = refl
 
--- at a fix that begins a leg the leg is the one before: with a third fix (20,0,0), moment 10.000 is 5 over 1 as 50,000 over 10,000
+-- at a fix the leg is the one that ends there: with a third fix (30,0,0), moment 10.000 has the denominator of the first leg
 pub worked-fix : at-moment (fix 0 (pos 0) (pos 0) ∷ fix 10 (pos 5) (negsuc 4) ∷ fix 30 (pos 0) (pos 0) ∷ []) 10 0 ≡ record { x = pos 50000; y = negsuc 49999; d = pos 10000 }
 unfolding at-moment moment-from on-leg own rounded floored
 worked-fix = refl

@@ -1,0 +1,138 @@
+// The questions and the lists of agings, for programs in other languages.
+use crate::Crossing;
+use crate::Spot;
+use distance::Seconds;
+use questions::Crossed;
+use questions::Edge;
+use questions::Edges;
+use questions::Placed;
+use questions::Window;
+ghost use mathlib.Core.Path.{_≡_};
+ghost use Rattle.record.specs.Format.{trail, never, mark-field};
+ghost use Rattle.record.specs.Checks.{IsAccepted};
+ghost use Rattle.questions.specs.Answers.{placed, crossed, boxOf};
+ghost use Rattle.questions.specs.Moment.{place-answer};
+ghost use Rattle.questions.specs.Crossing.{cross-answer};
+ghost use Rattle.questions.specs.Agings.{run, calls-of};
+ghost use Rattle.questions.specs.Claim.{Claim};
+ghost use Rattle.export.specs.Interface.{spot, crossing, box};
+
+fn spot_of(p: Placed) -> Spot
+    ensures { λ r. ⌜ r ≡ spot (placed p) ⌝ }
+{
+    match p {
+        Placed::At(s) => {
+            let w = s.whole;
+            Spot {
+                refusal: 0,
+                denominator: s.d,
+                x: s.x,
+                y: s.y,
+                whole_x: crate::whole(w.x),
+                whole_y: crate::whole(w.y),
+            }
+        },
+        Placed::Refused(k) => Spot {
+            refusal: crate::wide(k),
+            denominator: 0,
+            x: 0,
+            y: 0,
+            whole_x: 0,
+            whole_y: 0,
+        },
+    }
+}
+
+fn crossing_of(c: Crossed) -> Crossing
+    ensures { λ r. ⌜ r ≡ crossing (crossed c) ⌝ }
+{
+    match c {
+        Crossed::Told(n, d) => Crossing {
+            refusal: 0,
+            crosses: 1,
+            numerator: n,
+            denominator: d as u32,
+        },
+        Crossed::Denied => Crossing {
+            refusal: 0,
+            crosses: 0,
+            numerator: 0,
+            denominator: 0,
+        },
+        Crossed::Refused(k) => Crossing {
+            refusal: crate::wide(k),
+            crosses: 0,
+            numerator: 0,
+            denominator: 0,
+        },
+    }
+}
+
+fn window(start: u32, end: u32) -> Window
+    ensures { λ r. ⌜ (r .start .0 ≡ start) × (r .end .0 ≡ end) ⌝ }
+{
+    Window {
+        start: Seconds(start),
+        end: Seconds(end),
+    }
+}
+
+fn edges(left: i32, right: i32, bottom: i32, top: i32) -> Edges
+    ensures { λ r. ⌜ boxOf r ≡ box left right bottom top ⌝ }
+{
+    Edges {
+        left: Edge(left),
+        right: Edge(right),
+        bottom: Edge(bottom),
+        top: Edge(top),
+    }
+}
+
+// Where the trail is, so many thousandths after a second.
+#[no_mangle]
+pub extern "C" fn trails_place(b: &[u8], second: u32, thousandths: u16) -> Spot
+    ensures { λ r. ⌜ r ≡ spot (place-answer trail (now (b .entry)) second thousandths) ⌝ }
+{
+    let p = questions::place(b, Seconds(second), thousandths);
+    spot_of(p)
+}
+
+// Whether the trail crosses a box in a window.
+#[no_mangle]
+pub extern "C" fn trails_crosses(
+    b: &[u8],
+    start: u32,
+    end: u32,
+    left: i32,
+    right: i32,
+    bottom: i32,
+    top: i32,
+) -> Crossing
+    ensures { λ r. ⌜ r ≡ crossing (cross-answer trail (now (b .entry)) start end (box left right bottom top)) ⌝ }
+{
+    let c = questions::crosses(b, window(start, end), edges(left, right, bottom, top));
+    crossing_of(c)
+}
+
+// Makes the agings of a list, one after the other, and then asks whether what is left crosses a box in a window.
+#[no_mangle]
+pub extern "C" fn trails_crosses_after(
+    b: &mut [u8],
+    calls: &[u32],
+    start: u32,
+    end: u32,
+    left: i32,
+    right: i32,
+    bottom: i32,
+    top: i32,
+) -> Crossing
+    ensures { λ r. ⌜ (now (b .exit) ≡ run (now (b .entry)) (calls-of (now (calls .entry)))) × (r ≡ crossing (cross-answer trail (run (now (b .entry)) (calls-of (now (calls .entry)))) start end (box left right bottom top))) × (IsAccepted trail (now (b .entry)) → mark-field (now (b .entry)) ≡ never → Claim (now (b .entry)) (calls-of (now (calls .entry)))) ⌝ }
+{
+    let c = questions::crosses_after(
+        b,
+        calls,
+        window(start, end),
+        edges(left, right, bottom, top),
+    );
+    crossing_of(c)
+}
