@@ -120,7 +120,7 @@ impl Window {
             after.map(|t| (t, last)),
             after.map(|_| (first, u32::MAX)),
             (first < last).then_some((last, first)),
-            (first < last).then_some((first + 1, first)),
+            (first < last).then(|| (first + 1, first)),
         ];
         let all: Vec<(u32, u32)> = all.into_iter().flatten().collect();
         let (start, end) = random.pick(&all);

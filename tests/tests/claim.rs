@@ -178,7 +178,7 @@ fn the_longest_trails_and_a_long_list() {
     let mut run = Run::new();
     for shape in SHAPES {
         let fixes = trail(shape, MOST_FIXES, &mut run.random);
-        let mut long: Vec<Call> = (0..200).map(|k| Call::Tolerance(k % 31)).collect();
+        let mut long: Vec<Call> = (0..20).map(|k| Call::Tolerance(k % 7)).collect();
         long.push(Call::Days(65_535));
         for calls in [&[][..], &[Call::Days(0)], &[Call::Tolerance(3)], &long] {
             let question = run.question(&fixes);
