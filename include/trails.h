@@ -6,9 +6,9 @@
  *
  * A buffer is a pointer and the number of its elements. The pointer isn't null
  * and is aligned for its elements, even where the number is 0; all the elements
- * may be read, those of an output written too; and an output overlaps no other
- * buffer of the same call. Besides that a function asks nothing: every content
- * and every length has an answer, which this page gives.
+ * may be read, and where they aren't const written too; and a buffer that isn't
+ * const overlaps no other of the same call. Besides that a function asks nothing:
+ * every content and every length has an answer, which this page gives.
  *
  * THE RECORD. Numbers are little-endian.
  *
@@ -26,7 +26,8 @@
  *
  * REFUSALS. A refusal is one of the numbers below, and 0 is none. A call makes
  * its checks in this order, each over the whole record before the next, and
- * answers the first that fails. A refused call leaves all buffers as they were.
+ * answers the first that fails. A refused call leaves all buffers as they were;
+ * of trails_crosses_after, which is many calls in one, each of them does.
  */
 #ifndef TRAILS_H
 #define TRAILS_H
@@ -39,18 +40,22 @@ extern "C" {
 #endif
 
 enum {
-    TRAILS_ACCEPTED = 0,        /* not refused */
-    TRAILS_FEW_BYTES = 1,       /* fewer than 10 bytes are lent */
-    TRAILS_OTHER_KIND = 2,      /* the kind isn't 1 */
-    TRAILS_BAD_COUNT = 3,       /* no fix, or more than 4,096 */
-    TRAILS_BAD_LENGTH = 4,      /* the length field isn't 10 + 8 * count */
-    TRAILS_SHORT_RECORD = 5,    /* fewer bytes are lent than the length field says */
-    TRAILS_BAD_MARK = 6,        /* the mark is 32,001 to 65,534 */
-    TRAILS_MISPLACED = 7,       /* an x or a y below -16,000 or above 16,000 */
-    TRAILS_UNORDERED = 8,       /* a fix's time isn't later than the time before */
-    TRAILS_LONG_SPAN = 9,       /* more than 65,535 seconds from first to last fix */
-    TRAILS_HIGH_TOLERANCE = 10, /* the asked tolerance is above 32,000 */
-    TRAILS_SHORT_OUTPUT = 15    /* the output has fewer than 10 + 8 * count bytes */
+    TRAILS_ACCEPTED = 0,         /* not refused */
+    TRAILS_FEW_BYTES = 1,        /* fewer than 10 bytes are lent */
+    TRAILS_OTHER_KIND = 2,       /* the kind isn't 1 */
+    TRAILS_BAD_COUNT = 3,        /* no fix, or more than 4,096 */
+    TRAILS_BAD_LENGTH = 4,       /* the length field isn't 10 + 8 * count */
+    TRAILS_SHORT_RECORD = 5,     /* fewer bytes are lent than the length field says */
+    TRAILS_BAD_MARK = 6,         /* the mark is 32,001 to 65,534 */
+    TRAILS_MISPLACED = 7,        /* an x or a y below -16,000 or above 16,000 */
+    TRAILS_UNORDERED = 8,        /* a fix's time isn't later than the time before */
+    TRAILS_LONG_SPAN = 9,        /* more than 65,535 seconds from first to last fix */
+    TRAILS_HIGH_TOLERANCE = 10,  /* the asked tolerance is above 32,000 */
+    TRAILS_BAD_THOUSANDTHS = 11, /* the asked thousandths are above 999 */
+    TRAILS_BAD_MOMENT = 12,      /* the moment is before the first fix or after the last */
+    TRAILS_BAD_WINDOW = 13,      /* it ends before it starts, or not all is in the trail's times */
+    TRAILS_BAD_BOX = 14,         /* an edge beyond 16,000 either way, or low above high */
+    TRAILS_SHORT_OUTPUT = 15     /* the output has fewer than 10 + 8 * count bytes */
 };
 
 /* The mark of a trail that was never thinned. */
@@ -78,6 +83,28 @@ struct trails_step {
 struct trails_answer {
     uint32_t refusal;
     uint32_t value;
+};
+
+/* Where a cart was: x / denominator and y / denominator, and the same rounded to
+ * whole numbers, halves upward. Where refusal isn't 0, all else is 0. */
+struct trails_place {
+    uint32_t refusal;
+    uint32_t denominator;
+    int64_t x; /* centimetres times denominator */
+    int64_t y;
+    int32_t whole_x; /* centimetres */
+    int32_t whole_y;
+};
+
+/* Whether a cart was in a box. crosses is 1 for yes and 0 for no. A yes has the
+ * earliest time, numerator / denominator seconds after the first fix, with a
+ * denominator from 1 to 32,000; its form is free, so compare two by their value.
+ * Of a no numerator and denominator are 0, and where refusal isn't 0 all else is. */
+struct trails_crossing {
+    uint32_t refusal;
+    uint32_t crosses;
+    uint32_t numerator;
+    uint32_t denominator;
 };
 
 /* Whether the lent bytes begin with a record. Makes checks 1 to 9; where none
@@ -133,6 +160,44 @@ struct trails_answer trails_age(uint8_t *record, size_t lent, uint16_t tolerance
  *
  * Where a check fails, no byte is changed. */
 struct trails_answer trails_age_by_days(uint8_t *record, size_t lent, uint16_t days);
+
+/* Where the cart was at a moment: a second, on the fixes' own clock, and so many
+ * thousandths after it. Makes checks 1 to 9, 11 and 12. Where none fails, the
+ * leg is the first whose end isn't earlier than the moment, and the place is on
+ * the straight line in time between its two fixes: denominator is 1000 * D, with
+ * D the leg's seconds, and
+ *   x = x1 * 1000 * D + (x2 - x1) * (1000 * (second - t1) + thousandths)
+ * where t1, x1 and x2 are its first fix's time and the two fixes' x; y likewise.
+ * The fraction isn't reduced. Of one fix, denominator is 1. */
+struct trails_place trails_place(const uint8_t *record, size_t lent,
+                                 uint32_t second, uint16_t thousandths);
+
+/* Whether the cart was in a box: x from left to right and y from bottom to top,
+ * in centimetres, at some time, fractions of seconds too, from start to end,
+ * seconds on the fixes' own clock; edges and both ends are included. Between two
+ * fixes the cart is on the straight line in time. Makes checks 1 to 9, 13 and 14. */
+struct trails_crossing trails_crosses(const uint8_t *record, size_t lent,
+                                      uint32_t start, uint32_t end,
+                                      int32_t left, int32_t right,
+                                      int32_t bottom, int32_t top);
+
+/* Makes all agings of a list, one after the other, and then asks the crossing. A
+ * call below 65,536 is trails_age at that tolerance, and one from there on is
+ * trails_age_by_days at call % 65,536 days. Refused ones change nothing, and those
+ * after them are made. The answer, and each byte afterwards, are what these calls
+ * and trails_crosses give one by one, so where the crossing is refused for its
+ * window or its box, the agings are made nevertheless. STACK: as trails_age.
+ * Of a record marked TRAILS_NEVER, the original, let E be the greatest tolerance
+ * applied, or 0 if none was. Then the fixes left are those that thinning the
+ * original once at E keeps, or all where none was applied; and
+ *   - a yes means that at its time the original is at most E from the box;
+ *   - a no means that whenever the original is in the box within the window, its
+ *     x is at most E from left or right, or its y from bottom or top. */
+struct trails_crossing trails_crosses_after(uint8_t *record, size_t lent,
+                                            const uint32_t *calls, size_t call_count,
+                                            uint32_t start, uint32_t end,
+                                            int32_t left, int32_t right,
+                                            int32_t bottom, int32_t top);
 
 #ifdef __cplusplus
 }

@@ -3,7 +3,7 @@
 use crate::cases::{Draft, Random};
 use crate::interface::{self, Answer};
 use crate::plain::place::{Place, Time, FINEST};
-use crate::plain::thinning::{age, age_by_days, tolerance_of};
+use crate::plain::thinning::{age, age_by_days, thin, tolerance_of};
 use crate::plain::{read, record_length, Fix, Trail, NEVER};
 
 /// A call of aging, with its argument.
@@ -40,7 +40,7 @@ impl Call {
         }
     }
 
-    fn plain(self, buffer: &mut [u8]) -> Answer {
+    pub fn plain(self, buffer: &mut [u8]) -> Answer {
         match self {
             Call::Tolerance(e) => age(buffer, e).into(),
             Call::Days(days) => age_by_days(buffer, days).into(),
@@ -52,6 +52,46 @@ impl Call {
         match self {
             Call::Tolerance(e) => (e <= 32_000).then_some(e),
             Call::Days(days) => tolerance_of(days),
+        }
+    }
+}
+
+/// A list of calls, which may be empty.
+pub fn some_calls(random: &mut Random) -> Vec<Call> {
+    let many = random.between(0, 8);
+    (0..many).map(|_| Call::any(random)).collect()
+}
+
+/// The plain book: the original's fixes, and E, at first none. It is fed the calls and sees no record.
+pub struct Book {
+    fixes: Vec<Fix>,
+    pub e: Option<u16>,
+}
+
+impl Book {
+    pub fn of(fixes: &[Fix]) -> Book {
+        Book {
+            fixes: fixes.to_vec(),
+            e: None,
+        }
+    }
+
+    pub fn feed(&mut self, call: Call) {
+        // none is less than any tolerance
+        self.e = self.e.max(call.applies());
+    }
+
+    /// What is left after the calls.
+    pub fn expected(&self) -> Trail {
+        match self.e {
+            None => Trail {
+                mark: NEVER,
+                fixes: self.fixes.clone(),
+            },
+            Some(e) => Trail {
+                mark: e,
+                fixes: thin(&self.fixes, e).kept,
+            },
         }
     }
 }

@@ -1,6 +1,9 @@
 //! The functions of `include/trails.h`, for safe Rust. This is the only module with `unsafe`.
 #![allow(unsafe_code)]
 
+use crate::plain::crossing::Question;
+use crate::plain::moment::Whereabouts;
+
 #[repr(C)]
 #[derive(Clone, Copy, Debug, PartialEq, Eq)]
 pub struct Head {
@@ -38,6 +41,48 @@ impl From<Result<u32, u8>> for Answer {
     }
 }
 
+#[repr(C)]
+#[derive(Clone, Copy, Debug, Default, PartialEq, Eq)]
+pub struct Place {
+    pub refusal: u32,
+    pub denominator: u32,
+    pub x: i64,
+    pub y: i64,
+    pub whole_x: i32,
+    pub whole_y: i32,
+}
+
+/// What the plain version answers, as the interface puts it.
+impl From<Result<Whereabouts, u8>> for Place {
+    fn from(result: Result<Whereabouts, u8>) -> Place {
+        const FITS: &str = "it fits, says document 01";
+        match result {
+            Ok(found) => Place {
+                refusal: 0,
+                denominator: found.denominator.try_into().expect(FITS),
+                x: found.x.try_into().expect(FITS),
+                y: found.y.try_into().expect(FITS),
+                whole_x: found.whole_x.try_into().expect(FITS),
+                whole_y: found.whole_y.try_into().expect(FITS),
+            },
+            Err(number) => Place {
+                refusal: number.into(),
+                ..Place::default()
+            },
+        }
+    }
+}
+
+/// No `PartialEq`: the form of a crossing's fraction is free.
+#[repr(C)]
+#[derive(Clone, Copy, Debug)]
+pub struct Crossing {
+    pub refusal: u32,
+    pub crosses: u32,
+    pub numerator: u32,
+    pub denominator: u32,
+}
+
 extern "C" {
     fn trails_check(record: *const u8, lent: usize) -> Head;
     fn trails_read(record: *const u8, lent: usize, position: usize) -> Step;
@@ -53,6 +98,29 @@ extern "C" {
     ) -> Answer;
     fn trails_age(record: *mut u8, lent: usize, tolerance: u16) -> Answer;
     fn trails_age_by_days(record: *mut u8, lent: usize, days: u16) -> Answer;
+    fn trails_place(record: *const u8, lent: usize, second: u32, thousandths: u16) -> Place;
+    fn trails_crosses(
+        record: *const u8,
+        lent: usize,
+        start: u32,
+        end: u32,
+        left: i32,
+        right: i32,
+        bottom: i32,
+        top: i32,
+    ) -> Crossing;
+    fn trails_crosses_after(
+        record: *mut u8,
+        lent: usize,
+        calls: *const u32,
+        call_count: usize,
+        start: u32,
+        end: u32,
+        left: i32,
+        right: i32,
+        bottom: i32,
+        top: i32,
+    ) -> Crossing;
 }
 
 // Each call below is sound for the same reason: a slice's pointer isn't null, is aligned, and reaches as many
@@ -88,4 +156,42 @@ pub fn age(record: &mut [u8], tolerance: u16) -> Answer {
 
 pub fn age_by_days(record: &mut [u8], days: u16) -> Answer {
     unsafe { trails_age_by_days(record.as_mut_ptr(), record.len(), days) }
+}
+
+pub fn place(record: &[u8], second: u32, thousandths: u16) -> Place {
+    unsafe { trails_place(record.as_ptr(), record.len(), second, thousandths) }
+}
+
+pub fn crosses(record: &[u8], question: &Question) -> Crossing {
+    let Question { window, area } = question;
+    unsafe {
+        trails_crosses(
+            record.as_ptr(),
+            record.len(),
+            window.start,
+            window.end,
+            area.left,
+            area.right,
+            area.bottom,
+            area.top,
+        )
+    }
+}
+
+pub fn crosses_after(record: &mut [u8], calls: &[u32], question: &Question) -> Crossing {
+    let Question { window, area } = question;
+    unsafe {
+        trails_crosses_after(
+            record.as_mut_ptr(),
+            record.len(),
+            calls.as_ptr(),
+            calls.len(),
+            window.start,
+            window.end,
+            area.left,
+            area.right,
+            area.bottom,
+            area.top,
+        )
+    }
 }

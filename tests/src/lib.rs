@@ -9,4 +9,5 @@ pub mod agings;
 pub mod cases;
 pub mod interface;
 pub mod plain;
+pub mod questions;
 pub mod shapes;

@@ -1,9 +1,11 @@
 //! A plain version of document 01: the trail record with its checks, reader, writer and listing here, thinning and
-//! aging in `thinning`, and places at fractional times in `place`.
+//! aging in `thinning`, places at fractional times in `place`, and the two questions in `moment` and `crossing`.
 //!
 //! It follows document 01's sentences one by one. It takes nothing from the proved code, so that a misreading there
 //! would show as a difference here.
 
+pub mod crossing;
+pub mod moment;
 pub mod place;
 pub mod thinning;
 

@@ -2,46 +2,16 @@
 //! greatest tolerance that was applied.
 #![forbid(unsafe_code)]
 
-use trails_tests::agings::{stays_near, Buffer, Call};
+use trails_tests::agings::{some_calls, stays_near, Book, Buffer, Call};
 use trails_tests::cases::{Random, Settings};
-use trails_tests::plain::thinning::thin;
-use trails_tests::plain::{Fix, Trail, MOST_FIXES, NEVER};
+use trails_tests::plain::{Fix, MOST_FIXES};
 use trails_tests::shapes::{trail, SHAPES};
-
-/// The plain book: the original's fixes, and E, at first none. It is fed the calls and sees no record.
-struct Book {
-    fixes: Vec<Fix>,
-    e: Option<u16>,
-}
-
-impl Book {
-    fn feed(&mut self, call: Call) {
-        // none is less than any tolerance
-        self.e = self.e.max(call.applies());
-    }
-
-    fn expected(&self) -> Trail {
-        match self.e {
-            None => Trail {
-                mark: NEVER,
-                fixes: self.fixes.clone(),
-            },
-            Some(e) => Trail {
-                mark: e,
-                fixes: thin(&self.fixes, e).kept,
-            },
-        }
-    }
-}
 
 /// Makes the calls one after the other on one buffer. The claim is about whole lists, and each beginning of a list
 /// is one.
 fn ages(name: String, fixes: &[Fix], calls: &[Call], random: &mut Random) {
     let mut buffer = Buffer::never_thinned(name, fixes, random);
-    let mut book = Book {
-        fixes: fixes.to_vec(),
-        e: None,
-    };
+    let mut book = Book::of(fixes);
     assert_eq!(buffer.trail(), book.expected(), "{}", buffer.name);
     for &call in calls {
         buffer.age(call);
@@ -51,11 +21,6 @@ fn ages(name: String, fixes: &[Fix], calls: &[Call], random: &mut Random) {
     let aged = buffer.trail().fixes;
     let e = book.e.unwrap_or(0);
     stays_near(fixes, &aged, e, &buffer.name, random);
-}
-
-fn some_calls(random: &mut Random) -> Vec<Call> {
-    let many = random.between(0, 8);
-    (0..many).map(|_| Call::any(random)).collect()
 }
 
 #[test]

@@ -1,24 +1,61 @@
 //! Where a trail has its cart at a fractional time, and whether two places are near. Nothing is divided, so nothing
 //! is rounded.
 
+use std::cmp::Ordering;
+
 use super::Fix;
 
-/// The most that the denominator of a time may be here: then every product below stays within 128 bits.
+/// The most that the denominator of a time may be where two places are compared by `near`: then every product there
+/// stays within 128 bits.
 pub const FINEST: i128 = 250;
 
-/// p/q seconds, with q from 1 to FINEST.
+/// p/q seconds, with q at least 1.
 #[derive(Clone, Copy, Debug)]
 pub struct Time {
     pub p: i128,
     pub q: i128,
 }
 
+impl Time {
+    pub fn whole(seconds: u32) -> Time {
+        Time {
+            p: seconds.into(),
+            q: 1,
+        }
+    }
+
+    /// By value: two forms of one fraction are equal.
+    pub fn order(&self, other: &Time) -> Ordering {
+        (self.p * other.q).cmp(&(other.p * self.q))
+    }
+
+    /// Whether it is at or between two whole seconds.
+    pub fn from_to(&self, from: u32, to: u32) -> bool {
+        self.order(&Time::whole(from)).is_ge() && self.order(&Time::whole(to)).is_le()
+    }
+
+    pub fn midway(&self, other: &Time) -> Time {
+        Time {
+            p: self.p * other.q + other.p * self.q,
+            q: 2 * self.q * other.q,
+        }
+    }
+
+    /// The same time, counted from a second on.
+    pub fn since(&self, second: u32) -> Time {
+        Time {
+            p: self.p - self.q * i128::from(second),
+            q: self.q,
+        }
+    }
+}
+
 /// The place (x/d, y/d), with d at least 1.
 #[derive(Clone, Copy, Debug)]
 pub struct Place {
-    x: i128,
-    y: i128,
-    d: i128,
+    pub x: i128,
+    pub y: i128,
+    pub d: i128,
 }
 
 impl Place {

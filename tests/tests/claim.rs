@@ -1,0 +1,214 @@
+//! The claim about whole lists of agings with a crossing asked after them, as one call: what the record is then, and
+//! what a yes and a no say about the original.
+#![forbid(unsafe_code)]
+
+use trails_tests::agings::{some_calls, Book, Buffer, Call};
+use trails_tests::cases::{Cases, Random, Settings};
+use trails_tests::interface::{crosses_after, Crossing};
+use trails_tests::plain::crossing::{crosses, telling_times, Question};
+use trails_tests::plain::place::{Place, Time};
+use trails_tests::plain::{record_length, Fix, MOST_FIXES};
+use trails_tests::questions::{agrees, told};
+use trails_tests::shapes::{trail, SHAPES};
+
+/// A call as the interface takes it: below 65,536 a tolerance, and from there on days, whatever is above 16 bits.
+fn number(call: Call, random: &mut Random) -> u32 {
+    let some = random.between(1, 65_535) as u32;
+    match call {
+        Call::Tolerance(e) => e.into(),
+        Call::Days(days) => (random.pick(&[1, 2, some, 65_535]) << 16) + u32::from(days),
+    }
+}
+
+/// A list and a question, and how many answers were of each kind, so that none can be missing unseen.
+struct Run {
+    random: Random,
+    refused: usize,
+    /// yes: with the original in the box at that time, and near it only
+    told: [usize; 2],
+    /// no: with the original never in the box, and in it close to a side
+    denied: [usize; 2],
+}
+
+impl Run {
+    fn new() -> Run {
+        Run {
+            random: Random::new(Settings::get().seed),
+            refused: 0,
+            told: [0; 2],
+            denied: [0; 2],
+        }
+    }
+
+    fn numbers(&mut self, calls: &[Call]) -> Vec<u32> {
+        let number = |&call: &Call| number(call, &mut self.random);
+        calls.iter().map(number).collect()
+    }
+
+    /// Makes the calls and asks, and holds the claim to what came of it.
+    fn case(&mut self, name: &str, fixes: &[Fix], calls: &[Call], question: &Question) {
+        let name = format!("{name}, {calls:?}, {question:?}");
+        let numbers = self.numbers(calls);
+        let mut buffer = Buffer::never_thinned(name, fixes, &mut self.random);
+        let before = buffer.bytes.clone();
+        let answer = crosses_after(&mut buffer.bytes, &numbers, question);
+        let book = leaves_what_the_book_says(&buffer, &before, fixes, calls);
+        agrees(answer, crosses(&buffer.bytes, question), &buffer.name);
+        let e = book.e.unwrap_or(0);
+        if answer.refusal != 0 {
+            self.refused += 1;
+        } else if answer.crosses == 1 {
+            self.told[told_is_near(&answer, fixes, question, e, &buffer.name)] += 1;
+        } else {
+            self.denied[denied_is_outside(fixes, question, e, &buffer.name)] += 1;
+        }
+    }
+
+    fn question(&mut self, fixes: &[Fix]) -> Question {
+        let mut question = Question::good(fixes, &mut self.random);
+        if self.random.one_in(10) {
+            let fault = self.random.pick(&[13, 14]);
+            question.spoil(fault, fixes, &mut self.random);
+        }
+        question
+    }
+
+    fn expect_all_kinds(&self) {
+        let ([inside, near], [outside, beside]) = (self.told, self.denied);
+        println!("claim: {inside} told with the original inside, {near} near");
+        println!("claim: {outside} denied with the original outside, {beside} by a side");
+        println!("claim: {} refused", self.refused);
+        let all = [inside, near, outside, beside, self.refused];
+        assert!(all.iter().all(|&many| many > 0));
+    }
+}
+
+/// The record is the book's, whatever the question was, and every byte is as the plain agings leave it.
+fn leaves_what_the_book_says(
+    buffer: &Buffer,
+    before: &[u8],
+    fixes: &[Fix],
+    calls: &[Call],
+) -> Book {
+    let mut book = Book::of(fixes);
+    let mut plain = before.to_vec();
+    for &call in calls {
+        book.feed(call);
+        call.plain(&mut plain);
+    }
+    let name = &buffer.name;
+    assert_eq!(buffer.trail(), book.expected(), "{name}");
+    assert!(buffer.bytes == plain, "{name}: other bytes");
+    let after = record_length(fixes.len());
+    assert!(buffer.bytes[after..] == before[after..], "{name}: the tail");
+    book
+}
+
+/// A yes: at its time the original is within E of the box. Answers 0 if it is in the box, and 1 if it isn't.
+fn told_is_near(
+    answer: &Crossing,
+    original: &[Fix],
+    question: &Question,
+    e: u16,
+    name: &str,
+) -> usize {
+    let told = told(answer, name);
+    let time = Time {
+        p: told.p + told.q * i128::from(original[0].t),
+        q: told.q,
+    };
+    let window = question.window;
+    assert!(time.from_to(window.start, window.end), "{name}: {time:?}");
+    let place = Place::at(original, time);
+    assert!(question.area.within(&place, e), "{name}: {place:?}");
+    usize::from(!question.area.holds(&place))
+}
+
+/// A no: whenever the original is in the box, it is at most E from one of its sides. Answers 1 if it is ever in it.
+fn denied_is_outside(original: &[Fix], question: &Question, e: u16, name: &str) -> usize {
+    let mut ever = 0;
+    for time in telling_times(original, question, e) {
+        let place = Place::at(original, time);
+        if question.area.holds(&place) {
+            ever = 1;
+            let beside = question.area.beside(&place, e);
+            assert!(beside, "{name}, at {time:?}: {place:?}");
+        }
+    }
+    ever
+}
+
+#[test]
+fn any_list_and_question() {
+    let settings = Settings::get();
+    let mut run = Run::new();
+    for k in 0..settings.cases {
+        let shape = SHAPES[k % SHAPES.len()];
+        let n = run
+            .random
+            .between(1, if k.is_multiple_of(20) { 400 } else { 60 });
+        let fixes = trail(shape, n as usize, &mut run.random);
+        let calls = some_calls(&mut run.random);
+        let question = run.question(&fixes);
+        let name = format!("seed {}: {shape:?}, {n} fixes", settings.seed);
+        run.case(&name, &fixes, &calls, &question);
+    }
+    run.expect_all_kinds();
+}
+
+/// Tolerances that thin but leave something, where yes and no are the hardest to have right.
+#[test]
+fn lists_of_small_tolerances() {
+    let settings = Settings::get();
+    let mut run = Run::new();
+    for k in 0..settings.cases {
+        let shape = SHAPES[k % SHAPES.len()];
+        let fixes = trail(shape, 40, &mut run.random);
+        let mut small = || Call::Tolerance(run.random.between(0, 40) as u16);
+        let calls = [small(), Call::Days(1), small(), Call::Tolerance(32_001)];
+        let question = run.question(&fixes);
+        let name = format!("seed {}: {shape:?}", settings.seed);
+        run.case(&name, &fixes, &calls, &question);
+    }
+    run.expect_all_kinds();
+}
+
+#[test]
+fn the_longest_trails_and_a_long_list() {
+    let mut run = Run::new();
+    for shape in SHAPES {
+        let fixes = trail(shape, MOST_FIXES, &mut run.random);
+        let mut long: Vec<Call> = (0..20).map(|k| Call::Tolerance(k % 7)).collect();
+        long.push(Call::Days(65_535));
+        for calls in [&[][..], &[Call::Days(0)], &[Call::Tolerance(3)], &long] {
+            let question = run.question(&fixes);
+            run.case(&format!("{shape:?}, the longest"), &fixes, calls, &question);
+        }
+    }
+}
+
+/// A record that is turned away: every call of the list is, the crossing is too, and no byte is changed.
+#[test]
+fn a_refused_record_is_left_as_it_was() {
+    let settings = Settings::get();
+    let mut run = Run::new();
+    let fixes = trail(SHAPES[0], 3, &mut run.random);
+    for case in Cases::all(settings) {
+        let calls = some_calls(&mut run.random);
+        let numbers = run.numbers(&calls);
+        let question = run.question(&fixes);
+        let mut plain = case.bytes.clone();
+        for &call in &calls {
+            call.plain(&mut plain);
+        }
+        let mut bytes = case.bytes.clone();
+        let answer = crosses_after(&mut bytes, &numbers, &question);
+        let name = format!("{}, {calls:?}, {question:?}", case.name);
+        agrees(answer, crosses(&plain, &question), &name);
+        assert!(bytes == plain, "{name}: other bytes");
+        if let Some(known @ 1..) = case.known {
+            assert_eq!(answer.refusal, known.into(), "{name}");
+            assert!(bytes == case.bytes, "{name}: a refused record's bytes");
+        }
+    }
+}
