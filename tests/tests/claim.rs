@@ -5,7 +5,7 @@
 use trails_tests::agings::{some_calls, Book, Buffer, Call};
 use trails_tests::cases::{Cases, Random, Settings};
 use trails_tests::interface::{crosses_after, Crossing};
-use trails_tests::plain::crossing::{crosses, telling_times, Question};
+use trails_tests::plain::crossing::{crosses, telling_times, Area, Question, Window};
 use trails_tests::plain::place::{Place, Time};
 use trails_tests::plain::{record_length, Fix, MOST_FIXES};
 use trails_tests::questions::{agrees, told};
@@ -171,6 +171,45 @@ fn lists_of_small_tolerances() {
         run.case(&name, &fixes, &calls, &question);
     }
     run.expect_all_kinds();
+}
+
+// A yes and a no that are as far off as 50 lets them be, so that the claim is no weaker than it says.
+
+const BOUND: [Call; 3] = [Call::Tolerance(12), Call::Tolerance(50), Call::Days(7)];
+
+fn fix(&(t, x, y): &(u32, i16, i16)) -> Fix {
+    Fix { t, x, y }
+}
+
+fn at_second(second: u32, area: Area) -> Question {
+    let (start, end) = (second, second);
+    let window = Window { start, end };
+    Question { window, area }
+}
+
+/// Document 01's trail c: at second 10 the record has the cart in the box, a point, and the original 50 from it.
+#[test]
+fn a_yes_may_be_off_by_all_of_e() {
+    let fixes = [(0, 0, 0), (10, 30, 40), (20, 0, 0)].map(|row| fix(&row));
+    let question = at_second(10, Area::new((0, 0), (0, 0)));
+    let mut run = Run::new();
+    run.case("c", &fixes, &BOUND, &question);
+    assert_eq!(run.told, [0, 1]);
+    let place = Place::at(&fixes, Time::whole(10));
+    assert!(question.area.within(&place, 50) && !question.area.within(&place, 49));
+}
+
+/// From second 3 to 6 the original is 50 ahead of the line between its ends, which is all that is left. At second 5
+/// the record has x at 5/3, left of the box, and the original at 155/3, which is 149/3 from the left edge.
+#[test]
+fn a_no_may_be_off_by_more_than_the_whole_number_below_e() {
+    let fixes = [(0, 0, 0), (3, 51, 0), (6, 52, 0), (9, 3, 0)].map(|row| fix(&row));
+    let question = at_second(5, Area::new((2, 200), (-100, 100)));
+    let mut run = Run::new();
+    run.case("ahead", &fixes, &BOUND, &question);
+    assert_eq!(run.denied, [0, 1]);
+    let place = Place::at(&fixes, Time::whole(5));
+    assert!(question.area.beside(&place, 50) && !question.area.beside(&place, 49));
 }
 
 #[test]
