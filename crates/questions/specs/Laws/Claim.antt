@@ -15,7 +15,7 @@ use Rattle.distance.specs.Laws.Box.{told, denied}
 use Rattle.distance.specs.Laws.Place.{place-proper}
 use Rattle.record.specs.Format.{trail, never, mark-field, count-field, fixes, fix-at}
 use Rattle.record.specs.Laws.Each.{length-each}
-use Rattle.record.specs.Checks.{Asked as Asked15, IsAccepted, bad-window, bad-box, sentence, asked-of, refusal, crossing, last-fix, of-ends, second-outside}
+use Rattle.record.specs.Checks.{Asked, IsAccepted, bad-window, bad-box, sentence, asked-of, refusal, crossing, last-fix, of-ends, second-outside}
 use Rattle.record.specs.Answers.{gives, answer}
 use Rattle.record.specs.Laws.First.{first-exactly, NoneHolds, and-not, none-holds}
 use Rattle.record.specs.Laws.RoundTrip.{AreBytes}
@@ -86,7 +86,7 @@ module _ (E : Option ℕ) (l m : List Fix) (rises : Rising l) (is : m ≡ kept-a
 
 -- ---- the crossing's answer on a trail that was kept at E
 module _ (E : Option ℕ) (l : List Fix) (c : List ℕ) (rises : Rising l) (a : IsAccepted trail c) (is : fixes trail c ≡ kept-at E l) (s e : ℕ) (box : Box) where
-  abbrev q : Asked15
+  abbrev q : Asked
   q = asked-of trail c (asked-crossing s e box)
 
   abbrev m : List Fix

@@ -6,8 +6,7 @@ use native.Mathlib.Omega.{arith}
 use lib.IntN.{ℤ, pos, _+ℤ_, _-ℤ_, _*ℤ_}
 use Rattle.distance.specs.Fix.{Fix}
 use Rattle.distance.specs.Distance.{seconds}
-use Rattle.distance.specs.Place.{Time, leg, place-from, place, interpolated, Same}
-use Rattle.distance.specs.Laws.Near.{same-self}
+use Rattle.distance.specs.Place.{Time, leg, place-from, place, interpolated}
 use Rattle.distance.specs.Integers.Differences.{diffs}
 use Rattle.questions.specs.Moment.{on-leg, moment-from, at-moment}
 
@@ -41,6 +40,3 @@ pub moment-is : (l : List Fix) (s m : ℕ) → at-moment l s m ≡ place l (mome
 unfolding at-moment place
 moment-is [] s m = refl
 moment-is (a ∷ l) s m = from-is a l s m
-
-pub moment-same : (l : List Fix) (s m : ℕ) → Same (at-moment l s m) (place l (moment s m))
-moment-same l s m = rw (moment-is l s m) (same-self (place l (moment s m)))
