@@ -1,11 +1,11 @@
 //! Questions to try about a trail, good and bad, and the proved answers held to the plain version's.
 
-use crate::cases::Random;
+use crate::cases::{fixes, Cases, Random, Settings, Tally};
 use crate::interface::{self, Crossing};
 use crate::plain::crossing::{self, Area, Question, Window};
 use crate::plain::moment;
 use crate::plain::place::Time;
-use crate::plain::Fix;
+use crate::plain::{self, Fix};
 
 fn ends(fixes: &[Fix]) -> (u32, u32) {
     (fixes[0].t, fixes[fixes.len() - 1].t)
@@ -21,6 +21,52 @@ fn second(fixes: &[Fix], random: &mut Random) -> u32 {
     random.pick(&[any, any, fix, fix, before, after, first, last])
 }
 
+// ---- any question
+
+/// A question that can be asked of a trail.
+pub trait Asked: Sized + std::fmt::Debug {
+    /// One that no check turns away.
+    fn good(fixes: &[Fix], random: &mut Random) -> Self;
+
+    /// Makes the sentence of this check true.
+    fn spoil(&mut self, fault: u8, fixes: &[Fix], random: &mut Random);
+
+    /// A question with these faults about the record. Of one that is turned away, any question will do.
+    fn spoiled(record: &[u8], faults: &[u8], random: &mut Random) -> Self {
+        let trail = plain::read(record);
+        let fixes = trail.map_or_else(|_| fixes(random, 2), |trail| trail.fixes);
+        let mut question = Self::good(&fixes, random);
+        for &fault in faults {
+            question.spoil(fault, &fixes, random);
+        }
+        question
+    }
+}
+
+/// Asks every case questions with each of these sets of faults: a record's own refusal comes before the question's, and
+/// of the question's faults the least number. `ask` gives the number that it was answered.
+pub fn refused_in_order<Q: Asked>(
+    faults: &[&[u8]],
+    tally: &mut Tally,
+    ask: impl Fn(&[u8], &Q, &str) -> u32,
+) {
+    let settings = Settings::get();
+    let mut random = Random::new(settings.seed);
+    for case in Cases::all(settings) {
+        for some in faults {
+            let question = Q::spoiled(&case.bytes, some, &mut random);
+            let name = format!("{}, faults {some:?}", case.name);
+            let refusal = ask(&case.bytes, &question, &name);
+            if let Some(known) = case.known {
+                let fault = some.iter().copied().min().unwrap_or(0);
+                let known = if known == 0 { fault } else { known };
+                assert_eq!(refusal, known.into(), "{name}, {question:?}");
+            }
+            tally.count(refusal);
+        }
+    }
+}
+
 // ---- the place question
 
 /// A second and its thousandths.
@@ -30,9 +76,9 @@ pub struct Moment {
     pub thousandths: u16,
 }
 
-impl Moment {
+impl Asked for Moment {
     /// From the first fix to the last.
-    pub fn good(fixes: &[Fix], random: &mut Random) -> Moment {
+    fn good(fixes: &[Fix], random: &mut Random) -> Moment {
         let second = second(fixes, random);
         let any = random.between(0, 999) as u16;
         let thousandths = random.pick(&[0, 0, 1, 499, 500, 501, 999, any, any]);
@@ -48,7 +94,7 @@ impl Moment {
     }
 
     /// Makes the sentence of check 12 true and not that of 11, or that of 11 true.
-    pub fn spoil(&mut self, fault: u8, fixes: &[Fix], random: &mut Random) {
+    fn spoil(&mut self, fault: u8, fixes: &[Fix], random: &mut Random) {
         let (first, last) = ends(fixes);
         match fault {
             11 => {
@@ -188,8 +234,8 @@ impl Area {
     }
 }
 
-impl Question {
-    pub fn good(fixes: &[Fix], random: &mut Random) -> Question {
+impl Asked for Question {
+    fn good(fixes: &[Fix], random: &mut Random) -> Question {
         Question {
             window: Window::good(fixes, random),
             area: Area::good(fixes, random),
@@ -197,7 +243,7 @@ impl Question {
     }
 
     /// Makes the sentence of check 13 or 14 true, and leaves the other's as it is.
-    pub fn spoil(&mut self, fault: u8, fixes: &[Fix], random: &mut Random) {
+    fn spoil(&mut self, fault: u8, fixes: &[Fix], random: &mut Random) {
         match fault {
             13 => self.window = Window::bad(fixes, random),
             14 => self.area.spoil(random),

@@ -8,7 +8,7 @@ use trails_tests::interface::{crosses_after, Crossing};
 use trails_tests::plain::crossing::{crosses, telling_times, Area, Question, Window};
 use trails_tests::plain::place::{Place, Time};
 use trails_tests::plain::{record_length, Fix, MOST_FIXES};
-use trails_tests::questions::{agrees, told};
+use trails_tests::questions::{agrees, told, Asked as _};
 use trails_tests::shapes::{trail, SHAPES};
 
 /// A call as the interface takes it: below 65,536 a tolerance, and from there on days, whatever is above 16 bits.

@@ -1,12 +1,12 @@
 //! The crossing question: yes with the earliest time, no with nothing, and each refusal.
 #![forbid(unsafe_code)]
 
-use trails_tests::cases::{fixes, Case, Cases, Draft, Random, Settings, Tally};
+use trails_tests::cases::{Draft, Random, Settings, Tally};
 use trails_tests::interface::Crossing;
 use trails_tests::plain::crossing::{Area, Question, Window};
 use trails_tests::plain::place::Time;
-use trails_tests::plain::{self, Fix, MOST_FIXES, NEVER};
-use trails_tests::questions::{crosses, told};
+use trails_tests::plain::{Fix, MOST_FIXES, NEVER};
+use trails_tests::questions::{crosses, refused_in_order, told, Asked as _};
 use trails_tests::shapes::{trail, SHAPES};
 
 fn record(fixes: &[Fix]) -> Vec<u8> {
@@ -294,35 +294,12 @@ fn every_small_box_and_window() {
 
 // ---- refused
 
-/// A question with these faults, and what it must be refused for if the record is accepted.
-fn asked(case: &Case, faults: &[u8], random: &mut Random) -> (Question, u8) {
-    // of a record that is turned away, any question will do
-    let trail = plain::read(&case.bytes);
-    let fixes = trail.map_or_else(|_| fixes(random, 2), |trail| trail.fixes);
-    let mut question = Question::good(&fixes, random);
-    for &fault in faults {
-        question.spoil(fault, &fixes, random);
-    }
-    (question, faults.iter().copied().min().unwrap_or(0))
-}
-
 #[test]
 fn each_refusal_is_given_in_order() {
-    let settings = Settings::get();
-    let mut random = Random::new(settings.seed);
     let mut tally = Tally::default();
     let faults: [&[u8]; 4] = [&[], &[14], &[13], &[14, 13]];
-    for case in Cases::all(settings) {
-        for some in faults {
-            let (question, fault) = asked(&case, some, &mut random);
-            let name = format!("{}, faults {some:?}", case.name);
-            let answer = crosses(&case.bytes, &question, &name);
-            if let Some(known) = case.known {
-                let known = if known == 0 { fault } else { known };
-                assert_eq!(answer.refusal, known.into(), "{name}, {question:?}");
-            }
-            tally.count(answer.refusal);
-        }
-    }
+    refused_in_order(&faults, &mut tally, |record, question, name| {
+        crosses(record, question, name).refusal
+    });
     tally.expect("crossing", &[1, 2, 3, 4, 5, 6, 7, 8, 9, 13, 14]);
 }

@@ -1,10 +1,10 @@
 //! The place question: the fraction as document 01 has it, the rounded place beside it, and each refusal.
 #![forbid(unsafe_code)]
 
-use trails_tests::cases::{fixes, Case, Cases, Draft, Random, Settings, Tally};
+use trails_tests::cases::{Draft, Random, Settings, Tally};
 use trails_tests::interface::Place;
-use trails_tests::plain::{self, Fix, MOST_FIXES, NEVER};
-use trails_tests::questions::{place, Moment};
+use trails_tests::plain::{Fix, MOST_FIXES, NEVER};
+use trails_tests::questions::{place, refused_in_order, Asked as _, Moment};
 use trails_tests::shapes::{trail, SHAPES};
 
 fn record(fixes: &[Fix]) -> Vec<u8> {
@@ -163,43 +163,21 @@ fn halves_go_upward() {
     }
 }
 
-/// A moment with these faults, and what it must be refused for if the record is accepted.
-fn asked(case: &Case, faults: &[u8], random: &mut Random) -> (Moment, u8) {
-    // of a record that is turned away, any moment will do
-    let trail = plain::read(&case.bytes);
-    let fixes = trail.map_or_else(|_| fixes(random, 2), |trail| trail.fixes);
-    let mut moment = Moment::good(&fixes, random);
-    for &fault in faults {
-        moment.spoil(fault, &fixes, random);
-    }
-    (moment, faults.iter().copied().min().unwrap_or(0))
-}
-
 #[test]
 fn each_refusal_is_given_in_order() {
-    let settings = Settings::get();
-    let mut random = Random::new(settings.seed);
     let mut tally = Tally::default();
     let faults: [&[u8]; 4] = [&[], &[12], &[11], &[12, 11]];
-    for case in Cases::all(settings) {
-        for some in faults {
-            let (moment, fault) = asked(&case, some, &mut random);
-            let name = format!("{}, faults {some:?}", case.name);
-            let answer = place(&case.bytes, moment, &name);
-            if let Some(known) = case.known {
-                let known = if known == 0 { fault } else { known };
-                assert_eq!(answer.refusal, known.into(), "{name}, {moment:?}");
-            }
-            if answer.refusal != 0 {
-                let refusal = answer.refusal;
-                let nothing = Place {
-                    refusal,
-                    ..Place::default()
-                };
-                assert_eq!(answer, nothing, "{name}, {moment:?}");
-            }
-            tally.count(answer.refusal);
+    refused_in_order(&faults, &mut tally, |record, &moment: &Moment, name| {
+        let answer = place(record, moment, name);
+        let refusal = answer.refusal;
+        if refusal != 0 {
+            let nothing = Place {
+                refusal,
+                ..Place::default()
+            };
+            assert_eq!(answer, nothing, "{name}, {moment:?}");
         }
-    }
+        refusal
+    });
     tally.expect("place", &[1, 2, 3, 4, 5, 6, 7, 8, 9, 11, 12]);
 }
