@@ -7,6 +7,7 @@ pub mod Head
 pub mod Reading
 pub mod Stores
 pub mod Writing
+pub mod Passing
 pub mod Text
 pub mod RoundTrip
 pub mod Accepted

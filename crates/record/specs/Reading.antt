@@ -7,6 +7,7 @@ use lib.Dec.{ltb, leb}
 use lib.ListN.{length}
 use Rattle.distance.specs.Fix.{Fix}
 use Rattle.record.specs.Format.{Kind, count-field, record-length, fix-at}
+use Rattle.record.specs.Checks.{read-refusal}
 
 -- What a field of the head says; of bytes that are no whole head, 0.
 unfoldable pub of-head : (List ℕ → ℕ) → List ℕ → ℕ
@@ -23,3 +24,19 @@ yields K b k = cond (stands K b k) (some (fix-at K b k)) none
 
 unfoldable pub moves : Kind → List ℕ → ℕ → ℕ
 moves K b k = cond (stands K b k) (suc k) k
+
+-- Where a reader begins: on the first fix, if checks 1 to 9 accept the bytes. If they don't, it stands past every fix: no count of two bytes reaches
+-- this position, so it yields none, each time (`refused-yields-none` of Laws/Accepted.antt).
+abbrev pub past-every-fix : ℕ
+past-every-fix = 65536
+
+abbrev pub position-for : Option ℕ → ℕ
+position-for none = 0
+position-for (some k) = past-every-fix
+
+abbrev pub begins : Kind → List ℕ → ℕ
+begins K b = position-for (read-refusal K b)
+
+-- What a reader that stands there says of the checks (`begins-tells` of Laws/Reading.antt: of one that has just begun, what they say).
+unfoldable pub told-refusal : Kind → List ℕ → (at : ℕ) → Option ℕ
+told-refusal K b at = cond (ltb at past-every-fix) none (read-refusal K b)

@@ -1,11 +1,12 @@
 -- THE WRITER. Document 01: "The writer takes a lent list of fixes and puts down the record marked never; it answers the record's length, and later
 -- bytes of the output don't change."
-use mathlib.Core.List.{List, _++_}
+use mathlib.Core.List.{List, [], _∷_, _++_}
 use mathlib.Core.Option.{Option}
 use Prim.Native.Nat.{ℕ, min}
 use lib.ListN.{length, getD, drop}
 use lib.IntN.{ℤ, pos}
-use Rattle.distance.specs.Fix.{Fix}
+use Rattle.distance.specs.Fix.{Fix, fixOf}
+use Rattle.distance.specs.declared.Fix.{Fix as CodeFix}
 use Rattle.record.specs.Format.{Kind, never, record-length, each, record-bytes}
 use Rattle.record.specs.Checks.{Asked, refusal, writing}
 use Rattle.record.specs.Answers.{Answer, answer, unless}
@@ -31,6 +32,11 @@ write-answer K l out = answer (write-refusal K l out) (record-length K (length l
 
 abbrev pub written : Kind → List Fix → List ℕ → List ℕ
 written K l out = unless (write-refusal K l out) out (record-bytes K never l ++ drop (record-length K (length l)) out)
+
+-- A lent list of fixes: what each says.
+abbrev pub lent-fixes : List CodeFix → List Fix
+lent-fixes [] = []
+lent-fixes (f ∷ l) = fixOf f ∷ lent-fixes l
 
 -- A list of fixes as it is lent to the core: a column of numbers for each field, and as many fixes as all three columns have.
 abbrev pub column-fix : List ℕ → List ℤ → List ℤ → ℕ → Fix

@@ -1,13 +1,21 @@
 // The record layer: the byte format of a trail, the checks that every call makes of it, its reader, writer and listing.
+mod reading;
 mod text;
+mod writing;
 
 use distance::Centimetres;
 use distance::Fix;
 use distance::Seconds;
+pub use reading::Reader;
+pub use reading::next;
+pub use reading::read;
+pub use reading::said;
 pub use text::list;
+pub use writing::write_fixes;
 ghost use mathlib.Core.Path.{_≡_};
 ghost use Prim.Native.Nat.{_+_, _*_, _-_, _<_, _≤_, min};
 ghost use mathlib.Core.List.{List, [], _∷_, _++_};
+ghost use mathlib.Core.Option.{none};
 ghost use lib.ListN.{length};
 ghost use lib.Seq.{sets};
 ghost use Rattle.distance.specs.Fix.{Fix as Plain, fixOf};
@@ -368,7 +376,7 @@ fn scan_columns(ts: &[u32], xs: &[i16], ys: &[i16], n: usize) -> Scan
 
 // The writer's checks 3, 7, 8, 9 and 15, of a list of n fixes whose pass said `scanned` and an output of so many bytes.
 fn write_says(n: usize, scanned: Checked, output: usize) -> Checked
-    ensures { λ r. ⌜ ((l : List Plain) → length l ≡ n → refused scanned ≡ first (sentence trail (asked-to-write l output)) fix-checks → refused r ≡ refusal trail writing (asked-to-write l output)) ⌝ }
+    ensures { λ r. ⌜ ((l : List Plain) → length l ≡ n → refused scanned ≡ first (sentence trail (asked-to-write l output)) fix-checks → refused r ≡ refusal trail writing (asked-to-write l output)) × (refused r ≡ none → (n ≤ 4096) × (10 + 8 * n ≤ output)) ⌝ }
 {
     if n == 0 {
         return Checked::Refused(3);

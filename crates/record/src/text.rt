@@ -5,13 +5,16 @@ ghost use Prim.Native.Nat.{_+_, _*_, _≤_, _<_};
 ghost use lib.ListN.{length, drop};
 ghost use Rattle.distance.specs.Fix.{fixOf};
 ghost use Rattle.record.specs.Text.{decimal, integer, fix-line, fix-lines, mark-text, first-line, refusal-line, record-text, text};
-ghost use Rattle.record.specs.Format.{trail, fix-at, each};
-ghost use Rattle.record.specs.Laws.Text.{Stored};
+ghost use Rattle.record.specs.Format.{trail, count-field, fix-at, each};
+ghost use Rattle.record.specs.Laws.Text.{Stored, step-text};
+ghost use Rattle.record.specs.Answers.{found};
 use crate::Checked;
+use crate::Reader;
+use crate::Step;
 use crate::check;
 use crate::count_at;
-use crate::fix_at;
 use crate::mark_at;
+use crate::next;
 use distance::Centimetres;
 use distance::Fix;
 
@@ -103,23 +106,36 @@ fn put_refusal(out: &mut [u8], k: u8) -> usize
     put_word(out, end, b"\n")
 }
 
-// The lines of n fixes.
+// The line of what a reader yielded; nothing, if none was left.
+fn put_step(out: &mut [u8], at: usize, s: Step) -> usize
+    requires { ⌜ at + 29 ≤ length (now out) ⌝ }
+    ensures { λ r. ⌜ Stored (now (out .entry)) at (now (out .exit)) r (step-text (found s)) × (r ≤ at + 29) ⌝ }
+{
+    match s {
+        Step::Found(f) => put_fix_line(out, at, f),
+        Step::NoneLeft => at,
+    }
+}
+
+// The lines of n fixes, as a reader yields them one after the other.
 fn put_fix_lines(out: &mut [u8], at: usize, b: &[u8], n: usize) -> usize
-    requires { ⌜ (n ≤ 4096) × (10 + 8 * n ≤ length (now b)) × (at + 29 * n ≤ length (now out)) ⌝ }
+    requires { ⌜ (n ≤ 4096) × (n ≤ count-field (now b)) × (10 + 8 * n ≤ length (now b)) × (at + 29 * n ≤ length (now out)) ⌝ }
     ensures { λ r. ⌜ Stored (now (out .entry)) at (now (out .exit)) r (fix-lines (each (fix-at trail (now (b .entry))) 0 n)) × (r ≤ at + 29 * n) ⌝ }
 {
+    let mut r = Reader { bytes: b, at: 0 };
     let mut end = at;
     let mut k = 0;
     while k < n {
-        end = put_fix_line(out, end, fix_at(b, k));
-        k += 1;
+        let s = next(&mut r);
+        end = put_step(out, end, s);
+        k = k + 1;
     }
     end
 }
 
 // The text of a record of n fixes.
 fn put_record(out: &mut [u8], b: &[u8], n: usize, mark: u32) -> usize
-    requires { ⌜ (n ≤ 4096) × (10 + 8 * n ≤ length (now b)) × (mark < 65536) × (118805 ≤ length (now out)) ⌝ }
+    requires { ⌜ (n ≤ 4096) × (n ≤ count-field (now b)) × (10 + 8 * n ≤ length (now b)) × (mark < 65536) × (118805 ≤ length (now out)) ⌝ }
     ensures { λ r. ⌜ Stored (now (out .entry)) 0 (now (out .exit)) r (record-text n mark (each (fix-at trail (now (b .entry))) 0 n)) × (r ≤ 118805) ⌝ }
 {
     let first = put_first_line(out, n as u32, mark);

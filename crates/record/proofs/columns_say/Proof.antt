@@ -16,7 +16,7 @@ returns : tie.Need-returns
 returns c =
     let s = c .before .before .before in
     let l = each (column-fix (now (s .args .ts)) (now (s .args .xs)) (now (s .args .ys))) 0 (s .args .n) in
-    c .write-says .ensures l (length-each _ 0 _) (none-turned-away l _ (length-each _ 0 _ ∙ c .before .if1 .taken))
+    c .write-says .ensures .0 l (length-each _ 0 _) (none-turned-away l _ (length-each _ 0 _ ∙ c .before .if1 .taken))
 
 scan-columns-requires : tie.Need-scan-columns-requires
 scan-columns-requires c κs = search needs
@@ -32,7 +32,7 @@ returns-2 c =
     let s = c .before .before .before .before .before in
     let f = column-fix (now (s .args .ts)) (now (s .args .xs)) (now (s .args .ys)) in
     let l = each f 0 (s .args .n) in
-    c .write-says2 .ensures l (length-each _ 0 _)
+    c .write-says2 .ensures .0 l (length-each _ 0 _)
     (c .before .scan-says .ensures (asked-to-write l (s .args .output)) _ _ (each-first f 0 (s .args .n) (positive _ (c .before .before .before .if1 .left))) (c .before .before .scan-columns .ensures))
 
 pub columns-say-spec : {M : Type 1} → statement M

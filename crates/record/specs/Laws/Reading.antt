@@ -1,16 +1,17 @@
 -- The reader: where a fix stands, and that an accepted record yields its fixes in order and then none, each time.
-use mathlib.Core.Path.{_≡_, refl}
-use mathlib.Core.Bool.{Bool, true, false, _&&_}
+use mathlib.Core.Path.{_≡_, refl, _∙_}
+use mathlib.Core.Bool.{Bool, true, false, cond, _&&_}
 use mathlib.Core.List.{List}
-use mathlib.Core.Option.{some, none}
+use mathlib.Core.Option.{Option, some, none}
 use Prim.Native.Nat.{ℕ, suc, _+_, _*_, _<_, _≤_}
 use native.Mathlib.Numerals.{add-one}
 use native.Mathlib.Omega.{arith}
 use lib.Dec.{ltb, leb}
 use lib.ListN.{length}
-use borrow.Author.Tests.{lt-ltb, le-ltb, lt-leb, ltb-true, leb-true}
+use borrow.Author.Tests.{lt-ltb, le-ltb, lt-leb, le-leb, ltb-true, leb-true}
 use Rattle.record.specs.Format.{trail, count-field, fix-at}
-use Rattle.record.specs.Reading.{of-head, stands, yields, moves}
+use Rattle.record.specs.Checks.{read-refusal}
+use Rattle.record.specs.Reading.{of-head, stands, yields, moves, past-every-fix, position-for, begins, told-refusal}
 
 and-false : (x : Bool) → x && false ≡ false
 and-false true = refl
@@ -67,3 +68,33 @@ module _ (b : List ℕ) (k : ℕ) where
   pub moves-not : stands trail b k ≡ false → moves trail b k ≡ k
   unfolding moves
   moves-not h = rw h refl
+
+-- what a reader says of the checks: accepted, at every position of a fix; else what they say
+module _ (b : List ℕ) (at : ℕ) where
+  pub tells-accepted : at < 65536 → told-refusal trail b at ≡ none
+  unfolding told-refusal
+  tells-accepted h = rw (lt-ltb at 65536 h) refl
+
+  pub tells-refusal : 65536 ≤ at → told-refusal trail b at ≡ read-refusal trail b
+  unfolding told-refusal
+  tells-refusal h = rw (le-ltb at 65536 h) refl
+
+-- so one that has just begun says what they say
+pub begins-tells : (b : List ℕ) → told-refusal trail b (begins trail b) ≡ read-refusal trail b
+unfolding told-refusal
+begins-tells b = go (read-refusal trail b)
+  where
+    go : (r : Option ℕ) → cond (ltb (position-for r) past-every-fix) none r ≡ r
+    go none = refl
+    go (some k) = refl
+
+-- a reader at one of the first n fixes, where the count and the bytes have them, yields it and goes to the next
+module _ (b : List ℕ) (k n : ℕ) (less : k < n) (counted : n ≤ count-field b) (whole : 10 + 8 * n ≤ length b) where
+  stands-there : stands trail b k ≡ true
+  stands-there = stands-if b k (omega arith) ∙ le-leb (18 + 8 * k) (length b) (omega arith)
+
+  pub yields-it : yields trail b k ≡ some (fix-at trail b k)
+  yields-it = yields-some b k stands-there
+
+  pub moves-to-next : moves trail b k ≡ k + 1
+  moves-to-next = moves-on b k stands-there

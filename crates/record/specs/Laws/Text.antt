@@ -5,7 +5,7 @@ use mathlib.Core.List.{List, [], _∷_, _++_, append-nil, append-assoc}
 use Prim.Native.Nat.{ℕ, zero, suc, _+_, _*_, _/_, _%_, _^_, _<_, _≤_}
 use native.Mathlib.Omega.{arith}
 use lib.Dec.{T}
-use mathlib.Core.Option.{some, none}
+use mathlib.Core.Option.{Option, some, none}
 use lib.ListN.{length, getD, take, drop, set, length-append}
 use lib.Seq.{sets, length-sets, length-take-le, take-suc}
 use native.Mathlib.Nat.{pow-suc}
@@ -22,7 +22,7 @@ use Rattle.distance.specs.Integers.Tests.{Test, holds, fails, test}
 use Rattle.record.specs.Text.{space, line-end, fix-word, digit, digits, decimal, integer, fix-line, fix-lines, trail-word, never-word, refused-word, end-line, mark-text, first-line, refusal-line, record-text, text}
 use Rattle.record.specs.Checks.{read-refusal}
 use Rattle.record.specs.Laws.Numbers.{false-true}
-use Rattle.record.specs.Format.{trail, mark-field, count-field, fixes, each}
+use Rattle.record.specs.Format.{trail, mark-field, count-field, fix-at, fixes, each}
 use Rattle.record.specs.Laws.Each.{each-more}
 use Rattle.record.specs.Laws.Stores.{sets-then, sets-front}
 
@@ -37,8 +37,16 @@ stored-then {b} {c} {d} {l} {m} {at} {r} {s} p q = record {
   holds-it = q .holds-it ∙ rw (p .holds-it) (sets-then b at l r m (p .ends));
 }
 
+pub nothing-stored : (b : List ℕ) (at : ℕ) → Stored b at b at []
+nothing-stored b at = record { ends = omega arith; holds-it = refl }
+
 pub stored-length : {b c l : List ℕ} {at r : ℕ} → Stored b at c r l → length c ≡ length b
 stored-length {b} {c} {l} {at} p = ap length (p .holds-it) ∙ length-sets b at l
+
+-- the line of a fix that is there
+abbrev pub step-text : Option Fix → List ℕ
+step-text (some f) = fix-line f
+step-text none = []
 
 -- one digit, or the digits before the last and the last: whatever the depth, if it is enough
 one-digit : (k n : ℕ) → n < 10 → digits k n ≡ digit n ∷ []
@@ -178,6 +186,22 @@ pub lines-more : {b c d : List ℕ} {at r s : ℕ} (f : ℕ → Fix) (a : Fix) (
 lines-more f a k e p q =
     let n : 0 + k ≡ k = omega arith in
     rw (add-one, each-more f 0 k, n, fix-lines-more (each f 0 k) (f k), ← e) (stored-then p q)
+
+-- where the listing of a record b stands after the lines of k fixes: they are put down over ys from p on, which gave zs, and they end at `end`
+pub record LinesPut (b ys : List ℕ) (p k end : ℕ) (zs : List ℕ) : Type 0 where
+  pub stored : Stored ys p zs end (fix-lines (each (fix-at trail b) 0 k))
+  pub not-past : end ≤ p + 29 * k
+
+pub lines-begin : (b ys : List ℕ) (p : ℕ) → LinesPut b ys p 0 p ys
+lines-begin b ys p = record { stored = lines-none ys p (fix-at trail b); not-past = omega arith }
+
+-- one more, of what a reader at k yields
+pub lines-onward : {b ys zs l : List ℕ} {p k end r : ℕ} (x : Option Fix) → LinesPut b ys p k end zs → x ≡ some (fix-at trail b k) → Stored zs end l r (step-text x) → r ≤ end + 29
+    → LinesPut b ys p (k + 1) r l
+lines-onward {b} {ys} {zs} {l} {p} {k} {end} {r} x h e s t = record {
+  stored = lines-more (fix-at trail b) (fix-at trail b k) k refl (h .stored) (let g = s in rw e at g);
+  not-past = omega (arith, h .not-past);
+}
 
 pub record-text-is : (count mark : ℕ) (l : List Fix) → record-text count mark l ≡ first-line count mark ++ (fix-lines l ++ end-line)
 unfolding record-text

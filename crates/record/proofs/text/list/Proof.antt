@@ -40,7 +40,7 @@ put-record-requires : tie.Need-put-record-requires
 put-record-requires c κs =
     let h = accepted-head (now (c .before .before .before .before .before .before .before .args .b)) (accepted (c .before .before .before)) in
     let n = c .before .count-at .ensures .0 in
-    (omega (arith, h .few-fixes), omega (arith, h .whole), c .mark-at .ensures .1, search needs)
+    (omega (arith, h .few-fixes), omega arith, omega (arith, h .whole), c .mark-at .ensures .1, search needs)
 
 returns : tie.Need-returns
 returns c =

@@ -1,0 +1,61 @@
+// The reader: a place in a record's bytes, from which its fixes are yielded in order.
+ghost use mathlib.Core.Path.{_≡_};
+ghost use Rattle.record.specs.Format.{trail};
+ghost use Rattle.record.specs.Reading.{yields, moves, begins, told-refusal};
+ghost use Rattle.record.specs.Answers.{refused, found};
+use crate::Checked;
+use crate::Step;
+use crate::check;
+use crate::read_at;
+use crate::read_on;
+
+// The lent bytes and a position in them. The branches of its functions are in the functions over plain bytes that they call.
+pub struct Reader<'a> {
+    pub bytes: &'a [u8],
+    pub at: usize,
+}
+
+// Where a reader of these bytes begins, after checks 1 to 9.
+fn first_position(b: &[u8]) -> usize
+    ensures { λ r. ⌜ r ≡ begins trail (now (b .entry)) ⌝ }
+{
+    let v = check(b);
+    match v {
+        Checked::Accepted => 0,
+        Checked::Refused(_) => 65536,
+    }
+}
+
+// What a reader at this position says of the checks: one that began past every fix was refused.
+fn refusal_at(b: &[u8], at: usize) -> Checked
+    ensures { λ r. ⌜ refused r ≡ told-refusal trail (now (b .entry)) at ⌝ }
+{
+    if at < 65536 {
+        return Checked::Accepted;
+    }
+    check(b)
+}
+
+// A reader over lent bytes, which stands on the first fix if checks 1 to 9 accept them. If not, it yields no fix.
+pub fn read<'a>(bytes: &'a [u8]) -> Reader<'a>
+    ensures { λ r. ⌜ (r .bytes ≡ bytes .entry) × (r .at ≡ begins trail (now (bytes .entry))) ⌝ }
+{
+    let at = first_position(bytes);
+    Reader { bytes, at }
+}
+
+// Whether the reader's bytes were accepted, or the number of their refusal.
+pub fn said<'a>(r: Reader<'a>) -> Checked
+    ensures { λ s. ⌜ refused s ≡ told-refusal trail (now (r .entry .bytes)) (r .entry .at) ⌝ }
+{
+    refusal_at(r.bytes, r.at)
+}
+
+// The next fix, or that none is left; and the reader moves on.
+pub fn next<'s, 'a>(r: &'s mut Reader<'a>) -> Step
+    ensures { λ s. ⌜ (found s ≡ yields trail (now (now (r .entry) .bytes)) (now (r .entry) .at)) × (now (r .exit) .bytes ≡ now (r .entry) .bytes) × (now (r .exit) .at ≡ moves trail (now (now (r .entry) .bytes)) (now (r .entry) .at)) ⌝ }
+{
+    let at = r.at;
+    r.at = read_on(r.bytes, at);
+    read_at(r.bytes, at)
+}
