@@ -1,53 +1,272 @@
--- Document 01's worked trails k and l, on the definitions.
+-- TRAILS WORKED BY HAND. Document 01: "Fixes as (t, x, y), positions from 0. All twelve are to be shown of the definitions by one shared statement over
+-- a list of them". The list is `rows`, the line below the table is `beside`, the statement is `Holds` of each row, and `worked` proves it.
+-- Every row speaks of a record's bytes and of the definitions that the contracts of the calls cite.
 use mathlib.Core.Path.{_≡_, refl}
-use mathlib.Core.List.{List, [], _∷_}
+use mathlib.Core.List.{List, [], _∷_, _++_}
 use mathlib.Core.Option.{Option, some, none}
-use Prim.Native.Nat.{ℕ}
-use lib.IntN.{pos, negsuc}
+use Prim.Native.Nat.{ℕ, _*_, _≤_}
+use native.Mathlib.Omega.{arith}
+use lib.ListN.{length, take, drop}
+use lib.IntN.{ℤ, pos, negℤ}
 use Rattle.distance.specs.Fix.{Fix}
+use Rattle.distance.specs.Distance.{deviation, allowance}
 use Rattle.distance.specs.Box.{Box}
-use Rattle.record.specs.Bytes.{number-at, signed}
-use Rattle.record.specs.Format.{trail, fix-at, each}
-use Rattle.record.specs.Checks.{first, sentence, some-outside, some-early, some-early-after, of-ends, last-fix}
-use Rattle.record.specs.Answers.{gives, turns-away}
-use Rattle.questions.specs.Crossing.{cross-answer}
 use Rattle.distance.specs.Place.{own}
-use Rattle.distance.specs.Worked.{fix}
-use Rattle.questions.specs.Rounding.{floored, rounded}
-use Rattle.questions.specs.Moment.{on-leg, moment-from, at-moment, beside}
+use Rattle.record.specs.Bytes.{number-at, bytes-of, signed, unsigned}
+use Rattle.record.specs.Format.{trail, never, mark-field, record-length, fixes, fix-at, each, fix-bytes, all-bytes, header-bytes, record-bytes}
+use Rattle.record.specs.Checks.{first, sentence, some-outside, some-early, some-early-after, of-ends, last-fix, read-refusal}
+use Rattle.record.specs.Answers.{Answer, gives, turns-away, answer}
+use Rattle.record.specs.Writing.{write-refusal, written}
+use Rattle.thinning.specs.Thinning.{sooner, furthest, every, but-last, last, thin-span, thin, thinning}
+use Rattle.thinning.specs.Aging.{by-tolerance, left-by, answered, new-mark, thinned-record}
 use Rattle.questions.specs.declared.Fraction.{Fraction}
+use Rattle.questions.specs.Rounding.{floored, rounded}
+use Rattle.questions.specs.Moment.{Standing, on-leg, moment-from, at-moment, place-answer}
 use Rattle.questions.specs.Legs.{fraction, later-of, earlier-of, first-of, axis-times, leg-times, leg-first, first-from, first-crossing}
+use Rattle.questions.specs.Crossing.{cross-answer}
 
--- k: "(0,0,0) (10,5,−5), moment 1.000", "5000 and −5000 over 10000; rounded 1, 0"
-pub worked-k : beside (at-moment (fix 0 (pos 0) (pos 0) ∷ fix 10 (pos 5) (negsuc 4) ∷ []) 1 0)
-    ≡ record { exact = record { x = pos 5000; y = negsuc 4999; d = pos 10000 }; x = pos 1; y = pos 0 }
-unfolding at-moment moment-from on-leg own rounded floored
-worked-k = refl
+-- ---- WHAT A ROW ASKS of a trail
+pub data Question : Type 0 where
+  -- agings at these tolerances, one after the other
+  age-at : (tolerances : List ℕ) → Question
+  -- its place at a moment
+  place-at : (second thousandths : ℕ) → Question
+  -- whether it crosses a box in a window
+  cross : Box → (start end : ℕ) → Question
+  -- whether the writer takes it, and the reader
+  write : Question
+  read : Question
 
--- at a fix the leg is the one that ends there: with a third fix (30,0,0), moment 10.000 has the denominator of the first leg
-pub worked-fix : at-moment (fix 0 (pos 0) (pos 0) ∷ fix 10 (pos 5) (negsuc 4) ∷ fix 30 (pos 0) (pos 0) ∷ []) 10 0 ≡ record { x = pos 50000; y = negsuc 49999; d = pos 10000 }
-unfolding at-moment moment-from on-leg own rounded floored
-worked-fix = refl
+-- ---- WHAT THE DEFINITIONS ANSWER
+-- What agings leave: the fixes and the mark that the bytes left say, and the count that the last of them answered.
+pub record Left : Type 0 where
+  pub kept : List Fix
+  pub count : ℕ
+  pub mark : ℕ
 
--- l: "(0,0,0) (10,100,0), box x 33..40, y −5..5, window 0..10", "yes, 33/10", here as 330/100; "with window 4..10: yes, 4; with 5..10: no"
-abbrev trail-l : List Fix
-trail-l = fix 0 (pos 0) (pos 0) ∷ fix 10 (pos 100) (pos 0) ∷ []
+abbrev pub Reply : Question → Type 0
+Reply (age-at es) = Left
+Reply (place-at s m) = Standing
+Reply (cross box s e) = Option Fraction
+Reply write = Unit
+Reply read = Unit
 
-abbrev box-l : Box
-box-l = record { x-low = pos 33; x-high = pos 40; y-low = negsuc 4; y-high = pos 5 }
+-- An output of the record's length, and the trail's record as the writer puts it down there.
+abbrev pub output : List Fix → List ℕ
+output l = each (λ k. 0) 0 (record-length trail (length l))
 
-abbrev in-window : (s e : ℕ) → Option Fraction
-in-window s e = first-crossing 16000 trail-l box-l s e
+abbrev pub lent : List Fix → List ℕ
+lent l = written trail l (output l)
 
-pub worked-l : in-window 0 10 ∷ in-window 4 10 ∷ in-window 5 10 ∷ [] ≡ some (fraction 330 100) ∷ some (fraction 4 1) ∷ none ∷ []
-unfolding first-crossing first-from leg-first leg-times axis-times first-of later-of earlier-of
-worked-l = refl
+-- Each aging gets the buffer as the one before it left it; the first that is turned away is the answer.
+abbrev pub unless-refused : Answer ℕ → (ℕ → Answer Left) → Answer Left
+unless-refused (gives c) next = next c
+unless-refused (turns-away k) next = turns-away k
 
--- ---- the same on a record's bytes, checks and all: trail l as 26 bytes, and its other windows
-abbrev bytes-l : List ℕ
-bytes-l = 26 ∷ 0 ∷ 0 ∷ 0 ∷ 1 ∷ 0 ∷ 255 ∷ 255 ∷ 2 ∷ 0 ∷ 0 ∷ 0 ∷ 0 ∷ 0 ∷ 0 ∷ 0 ∷ 0 ∷ 0 ∷ 10 ∷ 0 ∷ 0 ∷ 0 ∷ 100 ∷ 0 ∷ 0 ∷ 0 ∷ []
+abbrev pub aged-all : (b : List ℕ) (count : ℕ) (tolerances : List ℕ) → Answer Left
+aged-all b count [] = gives (record { kept = fixes trail b; count = count; mark = mark-field b })
+aged-all b count (e ∷ es) = unless-refused (answered b (by-tolerance e)) (λ c. aged-all (left-by b (by-tolerance e)) c es)
 
-pub worked-bytes-l : cross-answer trail bytes-l 0 10 box-l ∷ cross-answer trail bytes-l 4 10 box-l ∷ cross-answer trail bytes-l 5 10 box-l ∷ cross-answer trail bytes-l 5 11 box-l ∷ []
-    ≡ gives (some (fraction 330 100)) ∷ gives (some (fraction 4 1)) ∷ gives none ∷ turns-away 13 ∷ []
-unfolding first-crossing first-from leg-first leg-times axis-times first-of later-of earlier-of first sentence fix-at each number-at signed some-outside some-early some-early-after of-ends last-fix
-worked-bytes-l = refl
+-- The reader is asked of the same bytes put down without the writer's checks, since some of these trails the writer turns away.
+abbrev pub reply : List Fix → (q : Question) → Answer (Reply q)
+reply l (age-at es) = aged-all (lent l) 0 es
+reply l (place-at s m) = place-answer trail (lent l) s m
+reply l (cross box s e) = cross-answer trail (lent l) s e box
+reply l write = answer (write-refusal trail l (output l)) tt
+reply l read = answer (read-refusal trail (record-bytes trail never l)) tt
+
+-- ---- WHAT THE TABLE GIVES: the positions that are kept, and the count and the mark where it has them
+pub record Kept : Type 0 where
+  pub positions : List ℕ
+  pub count-given : Option ℕ
+  pub mark-given : Option ℕ
+
+abbrev pub Entry : Question → Type 0
+Entry (age-at es) = Kept
+Entry (place-at s m) = Standing
+Entry (cross box s e) = Option Fraction
+Entry write = Unit
+Entry read = Unit
+
+-- A row: the trail, what is asked, and what the table gives, or the number of the refusal.
+pub data Row : Type 0 where
+  row : List Fix → (q : Question) → Answer (Entry q) → Row
+
+-- ---- WHAT A ROW SAYS
+-- The fixes of a trail at these positions.
+abbrev pub at-positions : List Fix → List ℕ → List Fix
+at-positions l [] = []
+at-positions l (k ∷ ks) = take 1 (drop k l) ++ at-positions l ks
+
+-- A number is the table's, where the table has one.
+abbrev pub Is : ℕ → Option ℕ → Type 0
+Is n none = Unit
+Is n (some k) = n ≡ k
+
+-- The told time f is the table's time g: "Its value is fixed; its form is free, with a denominator from 1 to 32,000."
+pub record SameTime (f g : Fraction) : Type 0 where
+  pub same-value : f .num * g .den ≡ g .num * f .den
+  pub at-least : 1 ≤ f .den
+  pub at-most : f .den ≤ 32000
+
+-- Yes with the same time, or no.
+abbrev pub SameCrossing : Option Fraction → Option Fraction → Type 0
+SameCrossing none none = Unit
+SameCrossing (some f) (some g) = SameTime f g
+SameCrossing none (some g) = ⊥
+SameCrossing (some f) none = ⊥
+
+abbrev pub Agrees : List Fix → (q : Question) → Reply q → Entry q → Type 0
+Agrees l (age-at es) a g = (a .kept ≡ at-positions l (g .positions)) × Is (a .count) (g .count-given) × Is (a .mark) (g .mark-given)
+Agrees l (place-at s m) a g = a ≡ g
+Agrees l (cross box s e) a g = SameCrossing a g
+Agrees l write a g = Unit
+Agrees l read a g = Unit
+
+-- Both give, and what they give agrees; or both are the same refusal.
+abbrev pub Same : {A B : Type 0} → (A → B → Type 0) → Answer A → Answer B → Type 0
+Same agrees (gives a) (gives g) = agrees a g
+Same agrees (turns-away k) (turns-away n) = k ≡ n
+Same agrees (gives a) (turns-away n) = ⊥
+Same agrees (turns-away k) (gives g) = ⊥
+
+abbrev pub Holds : Row → Type 0
+Holds (row l q g) = Same (Agrees l q) (reply l q) g
+
+abbrev pub AllHold : List Row → Type 0
+AllHold [] = Unit
+AllHold (r ∷ l) = Holds r × AllHold l
+
+-- ---- how rows are written
+-- (t, x, y), where no number is negative
+abbrev pub fix : (t x y : ℕ) → Fix
+fix t x y = record { t = t; x = pos x; y = pos y }
+
+abbrev pub minus : ℕ → ℤ
+minus n = negℤ (pos n)
+
+abbrev pub keeps : (positions : List ℕ) (count mark : Option ℕ) → Answer Kept
+keeps ks c m = gives (record { positions = ks; count-given = c; mark-given = m })
+
+-- x and y over d, and the rounded place
+abbrev pub stands-at : (x y d rounded-x rounded-y : ℤ) → Answer Standing
+stands-at x y d rx ry = gives (record { exact = record { x = x; y = y; d = d }; x = rx; y = ry })
+
+abbrev pub yes-at : (n d : ℕ) → Answer (Option Fraction)
+yes-at n d = gives (some (fraction n d))
+
+abbrev pub denied : Answer (Option Fraction)
+denied = gives none
+
+abbrev pub passes : Answer Unit
+passes = gives tt
+
+-- the trails that are named in more than one row
+abbrev pub trail-c : List Fix
+trail-c = fix 0 0 0 ∷ fix 10 30 40 ∷ fix 20 0 0 ∷ []
+
+abbrev pub trail-e : List Fix
+trail-e = fix 0 0 0 ∷ fix 10 90 0 ∷ fix 20 100 0 ∷ []
+
+abbrev pub trail-h : List Fix
+trail-h = fix 0 0 0 ∷ fix 10 20 0 ∷ fix 20 20 0 ∷ fix 30 0 0 ∷ []
+
+abbrev pub trail-k : List Fix
+trail-k = fix 0 0 0 ∷ record { t = 10; x = pos 5; y = minus 5 } ∷ []
+
+abbrev pub trail-l : List Fix
+trail-l = fix 0 0 0 ∷ fix 10 100 0 ∷ []
+
+abbrev pub box-l : Box
+box-l = record { x-low = pos 33; x-high = pos 40; y-low = minus 5; y-high = pos 5 }
+
+abbrev pub span : ℕ → List Fix
+span s = fix 0 0 0 ∷ fix s 0 0 ∷ []
+
+-- ---- THE TABLE, each row below its words
+abbrev pub rows : List Row
+rows =
+    -- a | (5,1,1), e 0 | all kept, count 0
+    row (fix 5 1 1 ∷ []) (age-at (0 ∷ [])) (keeps (0 ∷ []) (some 0) none)
+    -- b | (0,0,0) (10,100,0) (20,200,0), e 0 | 0, 2; count 1
+    ∷ row (fix 0 0 0 ∷ fix 10 100 0 ∷ fix 20 200 0 ∷ []) (age-at (0 ∷ [])) (keeps (0 ∷ 2 ∷ []) (some 1) none)
+    -- c | (0,0,0) (10,30,40) (20,0,0), e 50 | 0, 2; count 1
+    ∷ row trail-c (age-at (50 ∷ [])) (keeps (0 ∷ 2 ∷ []) (some 1) none)
+    -- d | c, e 49 | all; count 1
+    ∷ row trail-c (age-at (49 ∷ [])) (keeps (0 ∷ 1 ∷ 2 ∷ []) (some 1) none)
+    -- e | (0,0,0) (10,90,0) (20,100,0), e 39 | all
+    ∷ row trail-e (age-at (39 ∷ [])) (keeps (0 ∷ 1 ∷ 2 ∷ []) none none)
+    -- f | e's trail, e 40 | 0, 2
+    ∷ row trail-e (age-at (40 ∷ [])) (keeps (0 ∷ 2 ∷ []) none none)
+    -- g | (0,0,0) (1,0,0) (3,1,0), e 0 | all
+    ∷ row (fix 0 0 0 ∷ fix 1 0 0 ∷ fix 3 1 0 ∷ []) (age-at (0 ∷ [])) (keeps (0 ∷ 1 ∷ 2 ∷ []) none none)
+    -- h | (0,0,0) (10,20,0) (20,20,0) (30,0,0), e 12 | 0, 1, 3; count 3
+    ∷ row trail-h (age-at (12 ∷ [])) (keeps (0 ∷ 1 ∷ 3 ∷ []) (some 3) none)
+    -- i | h's trail, 25 then 12 | 0, 3; mark 25
+    ∷ row trail-h (age-at (25 ∷ 12 ∷ [])) (keeps (0 ∷ 3 ∷ []) none (some 25))
+    -- j | h's trail, 12 then 25 | 0, 3; mark 25
+    ∷ row trail-h (age-at (12 ∷ 25 ∷ [])) (keeps (0 ∷ 3 ∷ []) none (some 25))
+    -- k | (0,0,0) (10,5,−5), moment 1.000 | 5000 and −5000 over 10000; rounded 1, 0
+    ∷ row trail-k (place-at 1 0) (stands-at (pos 5000) (minus 5000) (pos 10000) (pos 1) (pos 0))
+    -- l | (0,0,0) (10,100,0), box x 33..40, y −5..5, window 0..10 | yes, 33/10
+    ∷ row trail-l (cross box-l 0 10) (yes-at 33 10)
+    ∷ []
+
+-- ---- THE LINE BELOW IT
+abbrev pub beside : List Row
+beside =
+    -- "Trail l with window 4..10: yes, 4; with 5..10: no."
+    row trail-l (cross box-l 4 10) (yes-at 4 1)
+    ∷ row trail-l (cross box-l 5 10) denied
+    -- "Tolerance 32,000 passes, 32,001 is 10.", of trail c, whose middle fix then goes
+    ∷ row trail-c (age-at (32000 ∷ [])) (keeps (0 ∷ 2 ∷ []) none none)
+    ∷ row trail-c (age-at (32001 ∷ [])) (turns-away 10)
+    -- "Span 65,535 passes, 65,536 is 9."
+    ∷ row (span 65535) write passes
+    ∷ row (span 65535) read passes
+    ∷ row (span 65536) write (turns-away 9)
+    ∷ row (span 65536) read (turns-away 9)
+    -- "Equal times are 8."
+    ∷ row (span 0) write (turns-away 8)
+    ∷ row (span 0) read (turns-away 8)
+    -- and of "The leg is the first whose end isn't earlier than the moment": at the second fix it is the leg that ends there
+    ∷ row (trail-k ++ fix 30 0 0 ∷ []) (place-at 10 0) (stands-at (pos 50000) (minus 50000) (pos 10000) (pos 5) (minus 5))
+    ∷ []
+
+-- ---- both by computation, row by row
+infixr 20 _and_
+_and_ : {A B : Type 0} → A → B → A × B
+a and b = (a, b)
+
+pub worked : AllHold rows
+unfolding thinned-record new-mark thinning thin thin-span furthest sooner every but-last last deviation allowance first sentence some-outside some-early-after some-early last-fix of-ends fix-at each number-at signed unsigned bytes-of fix-bytes all-bytes header-bytes record-bytes at-moment moment-from on-leg own rounded floored first-crossing first-from leg-first leg-times axis-times first-of later-of earlier-of
+worked =
+    (refl, refl, tt)
+    and (refl, refl, tt)
+    and (refl, refl, tt)
+    and (refl, refl, tt)
+    and (refl, tt, tt)
+    and (refl, tt, tt)
+    and (refl, tt, tt)
+    and (refl, refl, tt)
+    and (refl, tt, refl)
+    and (refl, tt, refl)
+    and refl
+    and record { same-value = refl; at-least = omega arith; at-most = omega arith }
+    and tt
+
+pub worked-beside : AllHold beside
+unfolding thinned-record new-mark thinning thin thin-span furthest sooner every but-last last deviation allowance first sentence some-outside some-early-after some-early last-fix of-ends fix-at each number-at signed unsigned bytes-of fix-bytes all-bytes header-bytes record-bytes at-moment moment-from on-leg own rounded floored first-crossing first-from leg-first leg-times axis-times first-of later-of earlier-of
+worked-beside =
+    record { same-value = refl; at-least = omega arith; at-most = omega arith }
+    and tt
+    and (refl, tt, tt)
+    and refl
+    and tt
+    and tt
+    and refl
+    and refl
+    and refl
+    and refl
+    and refl
+    and tt

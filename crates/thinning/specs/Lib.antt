@@ -2,8 +2,6 @@
 pub mod Thinning
 pub mod Aging
 pub mod Answers
--- the worked trails, computed on it:
-pub mod Worked
 -- what the code promises on the way to it:
 pub mod Marks
 pub mod Spans

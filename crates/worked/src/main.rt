@@ -1,0 +1,192 @@
+// Document 01's trails worked by hand, run through the calls that a line control makes: each is written as a record, and what is asked of it is asked of
+// the record's bytes. One line a row, to be laid beside the paper's table. Nothing here knows what the answers should be; specs/Worked.antt of the
+// questions layer proves them of the definitions.
+mod say;
+
+use distance::Centimetres;
+use distance::Fix;
+use distance::Seconds;
+use distance::Tolerance;
+use questions::Edge;
+use questions::Edges;
+use questions::Window;
+use thinning::Aged;
+ghost use mathlib.Core.Path.{_≡_};
+ghost use Rattle.questions.specs.Worked.{aged-all};
+ghost use Rattle.worked.specs.Agings.{leaving};
+
+// ---- the trails, each as its record; the longest has four fixes
+
+// A trail that the writer turned away would leave zeros, which every call refuses.
+fn record_of(ts: &[u32], xs: &[i16], ys: &[i16]) -> [u8; 42] {
+    let mut bytes = [0u8; 42];
+    record::write(ts, xs, ys, &mut bytes);
+    bytes
+}
+
+fn trail_a() -> [u8; 42] {
+    record_of(&[5], &[1], &[1])
+}
+
+fn trail_b() -> [u8; 42] {
+    record_of(&[0, 10, 20], &[0, 100, 200], &[0, 0, 0])
+}
+
+fn trail_c() -> [u8; 42] {
+    record_of(&[0, 10, 20], &[0, 30, 0], &[0, 40, 0])
+}
+
+fn trail_e() -> [u8; 42] {
+    record_of(&[0, 10, 20], &[0, 90, 100], &[0, 0, 0])
+}
+
+fn trail_g() -> [u8; 42] {
+    record_of(&[0, 1, 3], &[0, 0, 1], &[0, 0, 0])
+}
+
+fn trail_h() -> [u8; 42] {
+    record_of(&[0, 10, 20, 30], &[0, 20, 20, 0], &[0, 0, 0, 0])
+}
+
+fn trail_k() -> [u8; 42] {
+    record_of(&[0, 10], &[0, 5], &[0, -5])
+}
+
+fn trail_l() -> [u8; 42] {
+    record_of(&[0, 10], &[0, 100], &[0, 0])
+}
+
+fn box_l() -> Edges {
+    Edges {
+        left: Edge(33),
+        right: Edge(40),
+        bottom: Edge(-5),
+        top: Edge(5),
+    }
+}
+
+// ---- a row
+
+// The letter and the trail, which is read from its record.
+fn begin(letter: &[u8], b: &[u8]) {
+    say::word(letter);
+    say::word(b" | ");
+    say::trail(b);
+    say::word(b", ");
+}
+
+// Agings one after the other, each on the buffer as the one before left it: the count of the last, or the first refusal.
+fn age_all(b: &mut [u8], es: &[u16]) -> Aged
+    ensures { λ r. ⌜ leaving r (now (b .exit)) ≡ aged-all (now (b .entry)) 0 (now (es .entry)) ⌝ }
+{
+    let mut count = 0;
+    let mut i = 0;
+    while i < es.len() {
+        let a = thinning::age(b, Tolerance(es[i]));
+        match a {
+            Aged::Refused(k) => {
+                return Aged::Refused(k);
+            },
+            Aged::Count(c) => {
+                count = c;
+            },
+        }
+        i += 1;
+    }
+    Aged::Count(count)
+}
+
+fn aged(letter: &[u8], original: [u8; 42], es: &[u16]) {
+    let mut left = original;
+    begin(letter, &original);
+    say::tolerances(es);
+    say::word(b" | ");
+    let a = age_all(&mut left, es);
+    match a {
+        Aged::Refused(k) => say::refused(k),
+        Aged::Count(c) => say::kept(&original, &left, c),
+    }
+    say::word(b"\n");
+}
+
+fn placed(letter: &[u8], b: [u8; 42], second: u32, thousandths: u16) {
+    begin(letter, &b);
+    say::word(b"moment ");
+    say::moment(second, thousandths);
+    say::word(b" | ");
+    say::placed(questions::place(&b, Seconds(second), thousandths));
+    say::word(b"\n");
+}
+
+// Whether trail l crosses its box in a window.
+fn crossed(start: u32, end: u32) {
+    let b = trail_l();
+    let edges = box_l();
+    let window = Window {
+        start: Seconds(start),
+        end: Seconds(end),
+    };
+    begin(b"l", &b);
+    say::edges(edges);
+    say::word(b", ");
+    say::window(window);
+    say::word(b" | ");
+    say::crossed(questions::crosses(&b, window, edges));
+    say::word(b"\n");
+}
+
+// Two fixes of one place, so many seconds apart: what the writer says of them, and what the reader says of their record. A record that the writer turns away
+// is made of one that it took, with the second fix stored over.
+fn apart(label: &[u8], seconds: u32) {
+    let mut bytes = record_of(&[0, 1], &[0, 0], &[0, 0]);
+    let second = Fix {
+        t: Seconds(seconds),
+        x: Centimetres(0),
+        y: Centimetres(0),
+    };
+    record::put_fix(&mut bytes, 18, second);
+    begin(label, &bytes);
+    say::word(b"writer and reader | ");
+    let mut output = [0u8; 42];
+    say::written(record::write(&[0, seconds], &[0, 0], &[0, 0], &mut output));
+    say::word(b" and ");
+    say::checked(record::check(&bytes));
+    say::word(b"\n");
+}
+
+// ---- the table, and the line below it
+
+fn thinned() {
+    aged(b"a", trail_a(), &[0]);
+    aged(b"b", trail_b(), &[0]);
+    aged(b"c", trail_c(), &[50]);
+    aged(b"d", trail_c(), &[49]);
+    aged(b"e", trail_e(), &[39]);
+    aged(b"f", trail_e(), &[40]);
+    aged(b"g", trail_g(), &[0]);
+    aged(b"h", trail_h(), &[12]);
+    aged(b"i", trail_h(), &[25, 12]);
+    aged(b"j", trail_h(), &[12, 25]);
+}
+
+fn beside() {
+    crossed(4, 10);
+    crossed(5, 10);
+    aged(b"tolerance", trail_c(), &[32000]);
+    aged(b"tolerance", trail_c(), &[32001]);
+    apart(b"span", 65535);
+    apart(b"span", 65536);
+    apart(b"equal times", 0);
+}
+
+fn main() {
+    say::word(b"Document 01, trails worked by hand: fixes (t,x,y), positions from 0.\n");
+    say::word(
+        b"The count is the last aging's. A told time is in lowest terms, then as it was told.\n\n",
+    );
+    thinned();
+    placed(b"k", trail_k(), 1, 0);
+    crossed(0, 10);
+    say::word(b"\n");
+    beside();
+}
