@@ -1,13 +1,46 @@
 // The reader: a place in a record's bytes, from which its fixes are yielded in order.
 ghost use mathlib.Core.Path.{_≡_};
 ghost use Rattle.record.specs.Format.{trail};
-ghost use Rattle.record.specs.Reading.{yields, moves, begins, told-refusal};
+ghost use Rattle.record.specs.Reading.{stands, yields, moves, begins, told-refusal};
 ghost use Rattle.record.specs.Answers.{refused, found};
 use crate::Checked;
 use crate::Step;
 use crate::check;
-use crate::read_at;
-use crate::read_on;
+use crate::count_at;
+use crate::fix_at;
+
+// Whether a fix stands at position k of these bytes, whoever made them and the position.
+fn stands(b: &[u8], k: usize) -> bool
+    ensures { λ r. ⌜ r ≡ stands trail (now (b .entry)) k ⌝ }
+{
+    if b.len() < 18 {
+        return false;
+    }
+    if count_at(b) <= k {
+        return false;
+    }
+    18 + 8 * k <= b.len()
+}
+
+// The fix that a reader at position k yields, or that none is left.
+pub fn read_at(b: &[u8], k: usize) -> Step
+    ensures { λ r. ⌜ found r ≡ yields trail (now (b .entry)) k ⌝ }
+{
+    if stands(b, k) {
+        return Step::Found(fix_at(b, k));
+    }
+    Step::NoneLeft
+}
+
+// Where a reader stands after that.
+pub fn read_on(b: &[u8], k: usize) -> usize
+    ensures { λ r. ⌜ r ≡ moves trail (now (b .entry)) k ⌝ }
+{
+    if stands(b, k) {
+        return k + 1;
+    }
+    k
+}
 
 // The lent bytes and a position in them. The branches of its functions are in the functions over plain bytes that they call.
 pub struct Reader<'a> {

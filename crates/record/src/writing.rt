@@ -12,12 +12,12 @@ ghost use Rattle.record.specs.Laws.Passing.{Task, checks, Passed, Room-f
 use crate::Checked;
 use crate::Scan;
 use crate::Written;
+use crate::checking::scan_first;
+use crate::checking::scan_next;
+use crate::checking::scan_says;
+use crate::checking::write_says;
 use crate::put_fix;
 use crate::put_head;
-use crate::scan_first;
-use crate::scan_next;
-use crate::scan_says;
-use crate::write_says;
 use distance::Fix;
 
 // What is to be done with the next fix of a pass: it is the first to be checked, a later one to be checked, one to be put at a place of the output, or

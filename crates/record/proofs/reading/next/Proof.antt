@@ -57,14 +57,14 @@ use Rattle.record.proofs.reading.Reader as T
 use Rattle.record.proofs.reading.Reader.Laws as T′
 use Rattle.record.proofs.Step as S
 use Rattle.record.proofs.Step.Laws as S′
-use Rattle.record.proofs.read_on as read-on
-use Rattle.record.proofs.read_on.Symbol as read-on-def
-use Rattle.record.proofs.read_on.Symbol.{name as #record·read-on}
-use Rattle.record.proofs.read_on.Met as read-on-thm
-use Rattle.record.proofs.read_at as read-at
-use Rattle.record.proofs.read_at.Symbol as read-at-def
-use Rattle.record.proofs.read_at.Symbol.{name as #record·read-at}
-use Rattle.record.proofs.read_at.Met as read-at-thm
+use Rattle.record.proofs.reading.read_on as read-on
+use Rattle.record.proofs.reading.read_on.Symbol as read-on-def
+use Rattle.record.proofs.reading.read_on.Symbol.{name as #record·reading·read-on}
+use Rattle.record.proofs.reading.read_on.Met as read-on-thm
+use Rattle.record.proofs.reading.read_at as read-at
+use Rattle.record.proofs.reading.read_at.Symbol as read-at-def
+use Rattle.record.proofs.reading.read_at.Symbol.{name as #record·reading·read-at}
+use Rattle.record.proofs.reading.read_at.Met as read-at-thm
 use Rattle.record.proofs.reading.next.Key.{name as #record·reading·next}
 use Rattle.record.proofs.reading.next as next
 use Rattle.record.proofs.reading.next.Statement as stated
@@ -175,7 +175,7 @@ module _ {M : Type 1} (𝓤 : URA M) (H : Heap 𝓤) (A : Atoms 𝓤) (W : Given
       suffices ! _ (ends-at 𝓤 H A next.ended stayed (next.clauses 𝓤 H A at-mem run) W (((κ, (κ′, tt)), (q, (q′, tt)), bounds, x, at), tt) u s (h′ r, tt) (tt, tt)) $ says ! (e′, refl, e) $
       move ! (2 ∷ 4 ∷ []) $ join ! $ frame ! $ feqI ! (List Val) (vptr b o ∷ []) (vptr b o ∷ []) refl $ fjoin3 ! $ nothing ! $ move ! (1 ∷ 0 ∷ []) $ fjoin ! $ done !
 
-  module _ (C : Calls 𝓤 H) (Λ : Loops 𝓤 H) (fm : FmC 𝓤 H (W .laws) C) (known-read-on : Triple 𝓤 (C #record·read-on) (ReadOn 𝓤 H A at-mem run)) (known-read-at : Triple 𝓤 (C #record·read-at) (ReadAt 𝓤 H A at-mem run)) where
+  module _ (C : Calls 𝓤 H) (Λ : Loops 𝓤 H) (fm : FmC 𝓤 H (W .laws) C) (known-read-on : Triple 𝓤 (C #record·reading·read-on) (ReadOn 𝓤 H A at-mem run)) (known-read-at : Triple 𝓤 (C #record·reading·read-at) (ReadAt 𝓤 H A at-mem run)) where
     walk : ent 𝓤 (onEntry 𝓤 H A next.signature (κ, (κ′, tt)) (q, (q′, tt)) x at) (WpFn 𝓤 H C Λ code.function (vptr b o ∷ []) Post)
     walk =
         qed W ((‵ (flft κ q) ⊛ ‵ (flft κ′ q′) ⊛ ‵ ftrue) ∷ ‵ (owns (MutRef (named 0) κ (B κ′) ∷ []) x at) ∷ []) ∵ enter ! C Λ code.function (vptr b o ∷ []) _ $
@@ -216,13 +216,13 @@ module _ {M : Type 1} (𝓤 : URA M) (H : Heap 𝓤) (A : Atoms 𝓤) (W : Given
         keep ! (0 ∷ 1 ∷ 2 ∷ 3 ∷ 4 ∷ []) $ by ! (exits r s u′ e e′))))))))))))))))
 
 module _ {M : Type 1} (𝓤 : URA M) (H : Heap 𝓤) (A : Atoms 𝓤) (W : Given 𝓤 H A) (mem : Memory → SProp 𝓤) (run : Routine → Fun 𝓤) where
-  next-walks : (C : Calls 𝓤 H) (Λ : Loops 𝓤 H) → FmC 𝓤 H (W .laws) C → Triple 𝓤 (C #record·read-on) (ReadOn 𝓤 H A mem run) → Triple 𝓤 (C #record·read-at) (ReadAt 𝓤 H A mem run)
+  next-walks : (C : Calls 𝓤 H) (Λ : Loops 𝓤 H) → FmC 𝓤 H (W .laws) C → Triple 𝓤 (C #record·reading·read-on) (ReadOn 𝓤 H A mem run) → Triple 𝓤 (C #record·reading·read-at) (ReadAt 𝓤 H A mem run)
       → Walks 𝓤 H A next.ended stayed (WpFn 𝓤 H C Λ code.function) (next.clauses 𝓤 H A mem run)
   next-walks C Λ fm known-read-on known-read-at = walked 𝓤 H A next.ended stayed (next.clauses 𝓤 H A mem run) (WpFn 𝓤 H C Λ code.function) (λ κs. (ptr-vals, tt)) (λ κs. (mut-tells (named 0) (κs .0) (B (κs .1 .0)), tt))
       (λ κs qs bounds a _ are. via 𝓤 _ (fst∗ 𝓤 _ (emp 𝓤)) (walk 𝓤 H A W mem run (κs .0) (κs .1 .0) (qs .0) (qs .1 .0) bounds (a .0 .ptr .0) (a .0 .ptr .1) (a .0 .name) (a .0 .now) C Λ fm known-read-on known-read-at))
 
 next-meets : {M : Type 1} (𝓤 : URA M) (H : Heap 𝓤) (A : Atoms 𝓤) (W : Given 𝓤 H A) (mem : Memory → SProp 𝓤) (run : Routine → Fun 𝓤) (𝓣 : Tables 𝓤 H)
-    → Triple 𝓤 (𝓣 .C #record·read-on) (ReadOn 𝓤 H A mem run) → Triple 𝓤 (𝓣 .C #record·read-at) (ReadAt 𝓤 H A mem run)
+    → Triple 𝓤 (𝓣 .C #record·reading·read-on) (ReadOn 𝓤 H A mem run) → Triple 𝓤 (𝓣 .C #record·reading·read-at) (ReadAt 𝓤 H A mem run)
     → Meets 𝓤 H A next.signature (WpFn 𝓤 H (𝓣 .C) (𝓣 .Λ) code.function) (next.spec 𝓤 H A mem run)
 next-meets 𝓤 H A W mem run 𝓣 known-read-on known-read-at = walk-meets 𝓤 H A next.ended stayed W (goes-ref 𝓤 H A W 2 0 tt behind, tt) (next.clauses 𝓤 H A mem run) (WpFn 𝓤 H (𝓣 .C) (𝓣 .Λ) code.function) (WpFn-mono 𝓤 H (W .laws) 𝓣 code.function)
     (next-walks 𝓤 H A W mem run (𝓣 .C) (𝓣 .Λ) (fmOf 𝓤 H (W .laws) 𝓣) known-read-on known-read-at)
@@ -233,5 +233,5 @@ next-spec 𝓤 H 𝓜 𝓖 𝓡 =
     entered 𝓤 H (tripleOf 𝓤 H (𝓖 .A) next.signature (next.spec 𝓤 H (𝓖 .A) (𝓜 .mem) (𝓡 .run)))
     (tables 𝓤 H 𝓜 𝓡 code.env .C) (tables 𝓤 H 𝓜 𝓡 code.env .Λ) #record·reading·next code.function (code.unfolded 𝓤 H 𝓜 𝓡)
     (next-meets 𝓤 H (𝓖 .A) (givenOf 𝓤 H 𝓜 𝓖) (𝓜 .mem) (𝓡 .run) (tablesOf 𝓤 H 𝓜 (tables 𝓤 H 𝓜 𝓡 code.env))
-    (cited 𝓤 H (ReadOn 𝓤 H (𝓖 .A) (𝓜 .mem) (𝓡 .run)) 𝓜 𝓡 code.env #record·read-on read-on-def.routine code.calls-record·read-on (read-on-thm.met 𝓤 H 𝓜 𝓖 𝓡))
-    (cited 𝓤 H (ReadAt 𝓤 H (𝓖 .A) (𝓜 .mem) (𝓡 .run)) 𝓜 𝓡 code.env #record·read-at read-at-def.routine code.calls-record·read-at (read-at-thm.met 𝓤 H 𝓜 𝓖 𝓡)))
+    (cited 𝓤 H (ReadOn 𝓤 H (𝓖 .A) (𝓜 .mem) (𝓡 .run)) 𝓜 𝓡 code.env #record·reading·read-on read-on-def.routine code.calls-record·reading·read-on (read-on-thm.met 𝓤 H 𝓜 𝓖 𝓡))
+    (cited 𝓤 H (ReadAt 𝓤 H (𝓖 .A) (𝓜 .mem) (𝓡 .run)) 𝓜 𝓡 code.env #record·reading·read-at read-at-def.routine code.calls-record·reading·read-at (read-at-thm.met 𝓤 H 𝓜 𝓖 𝓡)))

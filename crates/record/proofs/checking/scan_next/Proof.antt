@@ -1,0 +1,14 @@
+use mathlib.Core.Path.{refl}
+use Rattle.record.specs.Laws.Scan.{scanned-more}
+use borrow.Author.Needs.{needs}
+use Rattle.record.proofs.checking.scan_next.Statement.{statement}
+use Rattle.record.proofs.checking.scan_next.Tie as tie
+
+fix-outside-requires : tie.Need-fix-outside-requires
+fix-outside-requires c κs = search needs
+
+returns : tie.Need-returns
+returns c a l h = scanned-more a l _ _ _ h (rw (c .before .before .before .before .fix-outside .ensures) refl) refl refl refl
+
+pub scan-next-spec : {M : Type 1} → statement M
+scan-next-spec = tie.close (tie.spec fix-outside-requires returns)

@@ -1,0 +1,23 @@
+use mathlib.Core.Path.{sym, _∙_}
+use denote.Ref.{now}
+use Rattle.record.specs.Laws.Reading.{stands-true, moves-on, moves-not}
+use borrow.Author.Needs.{needs}
+use Rattle.record.proofs.reading.read_on.Statement.{statement}
+use Rattle.record.proofs.reading.read_on.Tie as tie
+
+stands-requires : tie.Need-stands-requires
+stands-requires c κs = search needs
+
+add-result : tie.Need-add-result
+add-result c =
+    let h = stands-true (now (c .before .before .before .args .b)) (c .before .before .before .args .k) (sym (c .before .stands .ensures) ∙ c .if1 .taken) .1 in
+    search needs
+
+returns : tie.Need-returns
+returns c = sym (moves-on (now (c .before .before .before .args .b)) _ (sym (c .before .stands .ensures) ∙ c .if1 .taken))
+
+returns-2 : tie.Need-returns-2
+returns-2 c = sym (moves-not (now (c .before .before .before .args .b)) _ (sym (c .before .stands .ensures) ∙ c .if1 .left))
+
+pub read-on-spec : {M : Type 1} → statement M
+read-on-spec = tie.close (tie.spec stands-requires add-result returns returns-2)
