@@ -4,17 +4,18 @@ ghost use mathlib.Core.List.{_++_};
 ghost use Prim.Native.Nat.{_+_, _*_, _≤_, _<_};
 ghost use lib.ListN.{length, drop};
 ghost use Rattle.distance.specs.Fix.{fixOf};
-ghost use Rattle.record.specs.Text.{decimal, integer, fix-line, fix-lines, mark-text, first-line, refusal-line, record-text, text};
-ghost use Rattle.record.specs.Format.{trail, count-field, fix-at, each};
-ghost use Rattle.record.specs.Laws.Text.{Stored, step-text};
-ghost use Rattle.record.specs.Answers.{found};
+ghost use Rattle.record.specs.Text.{decimal, integer, fix-line, mark-text, first-line, refusal-line, text};
+ghost use Rattle.record.specs.Format.{trail};
+ghost use Rattle.record.specs.Laws.Text.{Stored, step-text, opening-text, lines-in, closing-text};
+ghost use Rattle.record.specs.Answers.{found, refused};
+ghost use Rattle.record.specs.Checks.{read-refusal};
 use crate::Checked;
-use crate::Reader;
 use crate::Step;
-use crate::check;
 use crate::count_at;
 use crate::mark_at;
 use crate::next;
+use crate::read;
+use crate::said;
 use distance::Centimetres;
 use distance::Fix;
 
@@ -117,39 +118,60 @@ fn put_step(out: &mut [u8], at: usize, s: Step) -> usize
     }
 }
 
-// The lines of n fixes, as a reader yields them one after the other.
-fn put_fix_lines(out: &mut [u8], at: usize, b: &[u8], n: usize) -> usize
-    requires { ⌜ (n ≤ 4096) × (n ≤ count-field (now b)) × (10 + 8 * n ≤ length (now b)) × (at + 29 * n ≤ length (now out)) ⌝ }
-    ensures { λ r. ⌜ Stored (now (out .entry)) at (now (out .exit)) r (fix-lines (each (fix-at trail (now (b .entry))) 0 n)) × (r ≤ at + 29 * n) ⌝ }
+// The first line: of the record, or of its refusal, which is all that there is then.
+fn put_opening(out: &mut [u8], b: &[u8], v: Checked) -> usize
+    requires { ⌜ (refused v ≡ read-refusal trail (now b)) × (17 ≤ length (now out)) ⌝ }
+    ensures { λ r. ⌜ Stored (now (out .entry)) 0 (now (out .exit)) r (opening-text trail (now (b .entry))) × (r ≤ 17) ⌝ }
 {
-    let mut r = Reader { bytes: b, at: 0 };
-    let mut end = at;
+    match v {
+        Checked::Refused(k) => put_refusal(out, k),
+        Checked::Accepted => put_first_line(out, count_at(b) as u32, mark_at(b)),
+    }
+}
+
+// How many lines of fixes follow it.
+fn lines_in(b: &[u8], v: Checked) -> usize
+    requires { ⌜ refused v ≡ read-refusal trail (now b) ⌝ }
+    ensures { λ r. ⌜ r ≡ lines-in trail (now (b .entry)) ⌝ }
+{
+    match v {
+        Checked::Refused(_) => 0,
+        Checked::Accepted => count_at(b),
+    }
+}
+
+// The last line of a record's text.
+fn put_closing(out: &mut [u8], at: usize, v: Checked) -> usize
+    requires { ⌜ at + 4 ≤ length (now out) ⌝ }
+    ensures { λ r. ⌜ Stored (now (out .entry)) at (now (out .exit)) r (closing-text (refused v)) × (r ≤ at + 4) ⌝ }
+{
+    match v {
+        Checked::Refused(_) => at,
+        Checked::Accepted => put_word(out, at, b"end\n"),
+    }
+}
+
+// The text of lent bytes, as a reader says and yields it.
+fn put_text(out: &mut [u8], b: &[u8]) -> usize
+    requires { ⌜ 118805 ≤ length (now out) ⌝ }
+    ensures { λ r. ⌜ Stored (now (out .entry)) 0 (now (out .exit)) r (text trail (now (b .entry))) × (r ≤ 118805) ⌝ }
+{
+    let mut r = read(b);
+    let v = said(r);
+    let n = lines_in(b, v);
+    let mut end = put_opening(out, b, v);
     let mut k = 0;
     while k < n {
         let s = next(&mut r);
         end = put_step(out, end, s);
         k = k + 1;
     }
-    end
-}
-
-// The text of a record of n fixes.
-fn put_record(out: &mut [u8], b: &[u8], n: usize, mark: u32) -> usize
-    requires { ⌜ (n ≤ 4096) × (n ≤ count-field (now b)) × (10 + 8 * n ≤ length (now b)) × (mark < 65536) × (118805 ≤ length (now out)) ⌝ }
-    ensures { λ r. ⌜ Stored (now (out .entry)) 0 (now (out .exit)) r (record-text n mark (each (fix-at trail (now (b .entry))) 0 n)) × (r ≤ 118805) ⌝ }
-{
-    let first = put_first_line(out, n as u32, mark);
-    let last = put_fix_lines(out, first, b, n);
-    put_word(out, last, b"end\n")
+    put_closing(out, end, v)
 }
 
 // The text of lent bytes, at the start of the output, and its length. The longest record's text takes 118,805 bytes.
 pub fn list(b: &[u8], out: &mut [u8; 118805]) -> usize
     ensures { λ r. ⌜ (r ≡ length (text trail (now (b .entry)))) × (r ≤ 118805) × (now (out .exit) ≡ text trail (now (b .entry)) ++ drop r (now (out .entry))) ⌝ }
 {
-    let v = check(b);
-    match v {
-        Checked::Refused(k) => put_refusal(out, k),
-        Checked::Accepted => put_record(out, b, count_at(b), mark_at(b)),
-    }
+    put_text(out, b)
 }

@@ -21,8 +21,11 @@ use Rattle.distance.specs.Integers.Bounds.{Bound, _⊝_, of-width, fits}
 use Rattle.distance.specs.Integers.Tests.{Test, holds, fails, test}
 use Rattle.record.specs.Text.{space, line-end, fix-word, digit, digits, decimal, integer, fix-line, fix-lines, trail-word, never-word, refused-word, end-line, mark-text, first-line, refusal-line, record-text, text}
 use Rattle.record.specs.Checks.{read-refusal}
+use Rattle.record.specs.Reading.{yields, moves, begins}
+use Rattle.record.specs.Laws.Head.{accepted-head}
+use Rattle.record.specs.Laws.Reading.{yields-it, moves-to-next}
 use Rattle.record.specs.Laws.Numbers.{false-true}
-use Rattle.record.specs.Format.{trail, mark-field, count-field, fix-at, fixes, each}
+use Rattle.record.specs.Format.{Kind, trail, mark-field, count-field, fix-at, fixes, each}
 use Rattle.record.specs.Laws.Each.{each-more}
 use Rattle.record.specs.Laws.Stores.{sets-then, sets-front}
 
@@ -207,14 +210,69 @@ pub record-text-is : (count mark : ℕ) (l : List Fix) → record-text count mar
 unfolding record-text
 record-text-is count mark l = refl
 
--- ---- the whole text
-pub text-record : (b : List ℕ) → read-refusal trail b ≡ none → text trail b ≡ record-text (count-field b) (mark-field b) (fixes trail b)
-unfolding text
-text-record b h = rw (h, text) refl
+-- ---- the whole text: an opening line, the lines of fixes, and a closing line
+abbrev pub opening-of : Option ℕ → (count mark : ℕ) → List ℕ
+opening-of none count mark = first-line count mark
+opening-of (some k) count mark = refusal-line k
 
-pub text-refusal : (b : List ℕ) (k : ℕ) → read-refusal trail b ≡ some k → text trail b ≡ refusal-line k
-unfolding text
-text-refusal b k h = rw (h, text) refl
+abbrev pub opening-text : Kind → List ℕ → List ℕ
+opening-text K b = opening-of (read-refusal K b) (count-field b) (mark-field b)
+
+abbrev pub lines-of : Option ℕ → ℕ → ℕ
+lines-of none count = count
+lines-of (some k) count = 0
+
+abbrev pub lines-in : Kind → List ℕ → ℕ
+lines-in K b = lines-of (read-refusal K b) (count-field b)
+
+abbrev pub closing-text : Option ℕ → List ℕ
+closing-text none = end-line
+closing-text (some k) = []
+
+pub text-parts : (b : List ℕ) → text trail b ≡ opening-text trail b ++ (fix-lines (each (fix-at trail b) 0 (lines-in trail b)) ++ closing-text (read-refusal trail b))
+unfolding text record-text each fix-lines
+text-parts b = go (read-refusal trail b)
+  where
+    go : (r : Option ℕ) → elim r [ none ↦ record-text (count-field b) (mark-field b) (fixes trail b) | some k ↦ refusal-line k ]
+        ≡ opening-of r (count-field b) (mark-field b) ++ (fix-lines (each (fix-at trail b) 0 (lines-of r (count-field b))) ++ closing-text r)
+    go none = refl
+    go (some k) = sym (append-nil (refusal-line k))
+
+-- where there is a line of a fix, the bytes are accepted ..
+accepted-line : (b : List ℕ) (k : ℕ) → k < lines-in trail b → read-refusal trail b ≡ none
+accepted-line b k h = go (read-refusal trail b) h
+  where
+    go : (r : Option ℕ) → k < lines-of r (count-field b) → r ≡ none
+    go none l = refl
+    go (some j) l = absurd (omega (arith, l))
+
+pub few-lines : (b : List ℕ) → lines-in trail b ≤ 4096
+few-lines b = go (read-refusal trail b) refl
+  where
+    go : (r : Option ℕ) → read-refusal trail b ≡ r → lines-of r (count-field b) ≤ 4096
+    go none e = accepted-head b e .few-fixes
+    go (some k) e = omega arith
+
+-- .. so a reader of them that has yielded k fixes yields fix k, and goes on to the next
+module _ (b : List ℕ) (k : ℕ) (line : k < lines-in trail b) where
+  first-place : begins trail b + k ≡ k
+  first-place = rw (accepted-line b k line) (omega arith)
+
+  line-counted : k < count-field b
+  line-counted = let h = line in rw (accepted-line b k line) at h
+
+  pub line-yields : yields trail b (begins trail b + k) ≡ some (fix-at trail b k)
+  line-yields = rw first-place (yields-it b k (count-field b) line-counted (omega arith) (accepted-head b (accepted-line b k line) .whole))
+
+  pub line-moves : moves trail b (begins trail b + k) ≡ begins trail b + (k + 1)
+  line-moves =
+      let e : begins trail b + (k + 1) ≡ begins trail b + k + 1 = omega arith in
+      rw (e, first-place) (moves-to-next b k (count-field b) line-counted (omega arith) (accepted-head b (accepted-line b k line) .whole))
+
+-- the three parts put down one after the other make the text
+pub text-put : {ys zs l m : List ℕ} {p end e : ℕ} (b : List ℕ) (r : Option ℕ) → r ≡ read-refusal trail b → Stored ys 0 zs p (opening-text trail b) → LinesPut b zs p (lines-in trail b) end l
+    → Stored l end m e (closing-text r) → Stored ys 0 m e (text trail b)
+text-put b r told opened lines closed = let c = closed in rw (text-parts b) (stored-then opened (stored-then (lines .stored) (rw told at c)))
 
 -- at the start of an output that is long enough
 pub listed : {b c l : List ℕ} {r : ℕ} (t : List ℕ) → t ≡ l → Stored b 0 c r l → r ≤ length b → (r ≡ length t) × (c ≡ t ++ drop r b)
