@@ -2,11 +2,12 @@
 ghost use mathlib.Core.Path.{_≡_};
 ghost use mathlib.Core.List.{List, [], _∷_, _++_};
 ghost use Prim.Native.Nat.{ℕ, _+_, _<_};
+ghost use mathlib.Core.Option.{none};
 ghost use lib.ListN.{length, getD};
 ghost use Rattle.distance.specs.Fix.{Fix as Plain, fixOf};
 ghost use Rattle.record.specs.Format.{trail};
 ghost use Rattle.record.specs.Checks.{first, sentence, fix-checks};
-ghost use Rattle.record.specs.Writing.{asked-to-write, lent-fixes, write-answer, written};
+ghost use Rattle.record.specs.Writing.{asked-to-write, lent-fixes, write-refusal, write-answer, written, ReadsBack};
 ghost use Rattle.record.specs.Answers.{refused, wrote};
 ghost use Rattle.record.specs.Laws.Passing.{Task, checks, Passed, Room-for, Ready, Finished, pen-answer, no-fix};
 use crate::Checked;
@@ -115,7 +116,7 @@ fn pass(fixes: &[Fix], out: &mut [u8], p: Pen) -> Pen
 
 // The record of a lent list of fixes, marked never.
 pub fn write_fixes(fixes: &[Fix], out: &mut [u8]) -> Written
-    ensures { λ r. ⌜ (wrote r ≡ write-answer trail (lent-fixes (now (fixes .entry))) (now (out .entry))) × (now (out .exit) ≡ written trail (lent-fixes (now (fixes .entry))) (now (out .entry))) ⌝ }
+    ensures { λ r. ⌜ (wrote r ≡ write-answer trail (lent-fixes (now (fixes .entry))) (now (out .entry))) × (now (out .exit) ≡ written trail (lent-fixes (now (fixes .entry))) (now (out .entry))) × (write-refusal trail (lent-fixes (now (fixes .entry))) (now (out .entry)) ≡ none → ReadsBack trail (lent-fixes (now (fixes .entry))) (now (out .exit))) ⌝ }
 {
     let n = fixes.len();
     let checked = pass(fixes, out, pen_begins());

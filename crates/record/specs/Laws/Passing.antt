@@ -9,6 +9,7 @@ use lib.IntN.{pos}
 use lib.ListN.{length, getD, length-append}
 use lib.Seq.{sets, length-sets}
 use Rattle.distance.specs.Fix.{Fix, fixOf}
+use Rattle.distance.specs.Laws.All.{All, all-none}
 use Rattle.distance.specs.declared.Fix.{Fix as CodeFix}
 use Rattle.record.specs.declared.Scan.{Scan}
 use Rattle.record.specs.declared.writing.Pen.{Pen}
@@ -18,7 +19,7 @@ use Rattle.record.specs.Checks.{first, fix-checks}
 use Rattle.record.specs.Writing.{lent-fixes, write-refusal, write-answer, written}
 use Rattle.record.specs.Answers.{Answer, gives, turns-away}
 use Rattle.record.specs.Laws.Each.{each-more, each-shift}
-use Rattle.record.specs.Laws.Scan.{Scanned}
+use Rattle.record.specs.Laws.Scan.{Timed, none-timed, Scanned}
 use Rattle.record.specs.Laws.Stores.{sets-then}
 use Rattle.record.specs.Laws.Writing.{says, length-all-bytes, all-bytes-more, writes-fit, writes-length, writes-record, writes-refusal, none-turned-away}
 
@@ -144,6 +145,14 @@ output-alone l s Begins c h = h .1
 output-alone l s (Checks q) c h = h .1
 output-alone l s (Puts at) c h = absurd h
 output-alone l s (Refused k) c h = absurd h
+
+-- and each fix that it passed has a time of 32 bits
+pub passed-timed : (l c : List ℕ) (s : List Fix) (r : Pen) → Passed checks l s r c → All Timed s
+passed-timed l c s Begins h = none-timed s (ap length (h .0))
+passed-timed l c [] (Checks q) h = all-none
+passed-timed l c (a ∷ m) (Checks q) h = h .0 .timed
+passed-timed l c s (Puts at) h = absurd h
+passed-timed l c s (Refused k) h = absurd h
 
 -- ---- between the passes, and after the second
 pub ready-refused : (s : List Fix) (l : List ℕ) (k : ℕ) → write-refusal trail s l ≡ some k → Ready s l (Refused k) l

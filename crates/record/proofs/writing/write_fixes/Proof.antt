@@ -54,8 +54,12 @@ use Rattle.distance.specs.declared.Fix.{Fix}
 use Rattle.distance.proofs.Fix as T
 use Rattle.record.specs.Format.{trail}
 use Rattle.record.specs.Answers.{wrote}
-use Rattle.record.specs.Writing.{lent-fixes, write-answer, written}
-use Rattle.record.specs.Laws.Passing.{Task, checks, Passed, Room-for, Ready, Finished, pen-answer, task-of, length-lent, ready-room, ready-passes, passes-end, first-room, output-alone}
+use Rattle.record.specs.Writing.{lent-fixes, write-refusal, write-answer, written, ReadsBack}
+use Rattle.record.specs.Laws.Passing.{Task, checks, Passed, Room-for, Ready, Finished, pen-answer, task-of, length-lent, ready-room, ready-passes, passes-end, first-room, output-alone, passed-timed}
+use Rattle.record.specs.Laws.Scan.{Timed}
+use Rattle.record.specs.Laws.Accepted.{writes-back}
+use Rattle.distance.specs.Laws.All.{All}
+use mathlib.Core.Option.{none}
 use Rattle.record.specs.declared.writing.Pen.{Pen}
 use Rattle.record.specs.declared.Written.{Written}
 use Rattle.record.proofs.Lending.{bytes-at, HeldBytes, WhileLent, lend-bytes, bytes-back}
@@ -162,7 +166,7 @@ module _ {M : Type 1} (𝓤 : URA M) (H : Heap 𝓤) (A : Atoms 𝓤) (W : Given
   typed : (r : Pen) (u : Val) → IsPen r u → Holds (hasTy P′.mir u) × WT u
   typed r u is = EL.lawful P.the-type P′.the-laws 𝓤 H A W tt .typed r (u ∷ []) is .0
 
-  exits : (r : Written) (u : Val) (l : List ℕ) → length l ≡ length ys → (wrote r ≡ write-answer trail (lent-fixes fs) ys) × (l ≡ written trail (lent-fixes fs) ys)
+  exits : (r : Written) (u : Val) (l : List ℕ) → length l ≡ length ys → (wrote r ≡ write-answer trail (lent-fixes fs) ys) × (l ≡ written trail (lent-fixes fs) ys) × (write-refusal trail (lent-fixes fs) ys ≡ none → ReadsBack trail (lent-fixes fs) l)
       → ent 𝓤 (⋆ 𝓤 H A (‵ (Wr.the-row .own r (u ∷ [])) ∷ ‵ (OwnOut l (length l)) ∷ ‵ (flft κ′ q′) ∷ (‵ (flft κ q) ⊛ ‵ ftrue) ∷ ‵ Own ∷ [])) (Post u)
   exits r u l len e =
       qed W (‵ (Wr.the-row .own r (u ∷ [])) ∷ ‵ (OwnOut l (length l)) ∷ ‵ (flft κ′ q′) ∷ (‵ (flft κ q) ⊛ ‵ ftrue) ∷ ‵ Own ∷ []) ∵
@@ -251,8 +255,8 @@ module _ {M : Type 1} (𝓤 : URA M) (H : Heap 𝓤) (A : Atoms 𝓤) (W : Given
         ∷ ‵ (froom lentT l₁₂ 0) ∷ ‵ (fdies lentT l₁₂) ∷ ‵ (froom lentRef l₁₁ 0) ∷ ‵ (fdies lentRef l₁₁) ∷ ‵ (froom lentT l₁₀ 0) ∷ ‵ (fdies lentT l₁₀) ∷ ‵ (froom lentRef l₉ 0) ∷ ‵ (fdies lentRef l₉) ∷ ‵ (froom P′.mir l₈ 0) ∷ ‵ (fdies P′.mir l₈) ∷ ‵ (froom lentT l₇ 0) ∷ ‵ (fdies lentT l₇)
         ∷ ‵ (froom lentRef l₆ 0) ∷ ‵ (fdies lentRef l₆) ∷ ‵ (fat fullShare P′.mir l₅ 0 u) ∷ ‵ (fdies P′.mir l₅) ∷ ‵ (froom P′.mir l₄ 0) ∷ ‵ (fdies P′.mir l₄) ∷ ‵ (fat fullShare word l₃ 0 (vint w64 n)) ∷ ‵ (fdies word l₃) ∷ ‵ (fat fullShare outT l₂ 0 (v′ (length l))) ∷ ‵ (fdies outT l₂) ∷ ‵ (fat fullShare fixesT l₁ 0 v) ∷ ‵ (fdies fixesT l₁) ∷ ‵ (froom Wr′.mir l₀ 0) ∷ ‵ (fdies Wr′.mir l₀) ∷ []
 
-    second-pass : (r : Pen) (u : Val) (l : List ℕ) → IsPen r u → length l ≡ length ys → Ready (lent-fixes fs) ys r l → Sq W (AtSecond l u) (runs C Λ En body.t-9 (atRet En Post))
-    second-pass r u l is len ready =
+    second-pass : (r : Pen) (u : Val) (l : List ℕ) → IsPen r u → length l ≡ length ys → Ready (lent-fixes fs) ys r l → All Timed (lent-fixes fs) → Sq W (AtSecond l u) (runs C Λ En body.t-9 (atRet En Post))
+    second-pass r u l is len ready timed =
         assigns ! (addr ! (from ! (fld ! refl (hop ! (look-in ! 24 (sub ! 0 refl (whole !))) (stop !))))) (from ! (stop !)) (init ! 6 refl (tt, tt)) $
         assigns ! (agg ! (and-then ! (load ! (from ! (stop !)) (look ! 6 refl)) (and-then ! (load ! (from ! (fld ! refl (stop !))) (look-in ! 24 (sub ! 1 refl (whole !)))) (no-more !)))) (from ! (stop !)) (init ! 4 refl (tt, (tt, (record { fits = room-of l len .0 }, tt)))) $
         -- the output is lent, and the list goes as a copy
@@ -280,7 +284,7 @@ module _ {M : Type 1} (𝓤 : URA M) (H : Heap 𝓤) (A : Atoms 𝓤) (W : Given
         peeks ! Wr.the-row (Is Wr.the-row) (shows 𝓤 H A Wr.the-row) a (x ∷ []) (λ isa. land ! (from ! (stop !)) (init ! 30 refl (EL.lawful Wr.the-type Wr′.the-laws 𝓤 H A W tt .typed a _ isa .0)) $
         returns ! (look ! 30 refl) $ forget ! 14 refl $ forget ! 24 refl $ forget ! 26 refl $ forget ! 28 refl $ forget ! 30 refl $
         move ! (30 ∷ 31 ∷ []) $ free1 ! $ move ! (28 ∷ 29 ∷ []) $ free1 ! $ move ! (26 ∷ 27 ∷ []) $ free1 ! $ move ! (24 ∷ 25 ∷ []) $ free1 ! $ move ! (22 ∷ 23 ∷ []) $ free1 ! $ move ! (20 ∷ 21 ∷ []) $ free1 ! $ move ! (18 ∷ 19 ∷ []) $ free1 ! $ move ! (16 ∷ 17 ∷ []) $ free1 ! $ move ! (14 ∷ 15 ∷ []) $ free1 ! $ move ! (12 ∷ 13 ∷ []) $ free1 ! $ move ! (10 ∷ 11 ∷ []) $ free1 ! $ move ! (8 ∷ 9 ∷ []) $ free1 ! $ move ! (6 ∷ 7 ∷ []) $ free1 ! $ free0 ! $
-        keep ! (0 ∷ 2 ∷ 3 ∷ 4 ∷ 5 ∷ []) $ by ! (exits a x (ws .1 .0) (same ∙ len) (told ∙ end .1, end .2))))))))))))))
+        keep ! (0 ∷ 2 ∷ 3 ∷ 4 ∷ 5 ∷ []) $ by ! (exits a x (ws .1 .0) (same ∙ len) (told ∙ end .1, end .2, λ h. subst (ReadsBack trail (lent-fixes fs)) (sym (end .2)) (writes-back (lent-fixes fs) ys timed h)))))))))))))))
 
     -- where the second part begins: the output is as at first, and _4 has the pen r
     abbrev AtReady : List ℕ → Val → List (Item 𝓤)
@@ -306,7 +310,7 @@ module _ {M : Type 1} (𝓤 : URA M) (H : Heap 𝓤) (A : Atoms 𝓤) (W : Given
         use3 W (later (‵ (OwnOut (ws .0) (length l)) ⊛ ‵ (flft κ′ q′))) (bytes-back κ′ (ν ∷ []) q′ γ b o 𝓤 H A W (named 1) (named 0) l δ (ws .0) (room-of l len) same) $ await ! tt $ split ! $
         keep ! (0 ∷ 1 ∷ 5 ∷ 6 ∷ 7 ∷ 8 ∷ 9 ∷ 10 ∷ 11 ∷ 12 ∷ 13 ∷ 14 ∷ 15 ∷ 16 ∷ 17 ∷ 18 ∷ 19 ∷ 20 ∷ 21 ∷ 22 ∷ 23 ∷ 24 ∷ 25 ∷ 26 ∷ 27 ∷ 28 ∷ 29 ∷ 30 ∷ 31 ∷ 32 ∷ []) $ rewrite ! 0 (λ (m : ℕ). ‵ (OwnOut (ws .0) m)) (sym same) refl $ rewrite ! 24 (λ (m : ℕ). ‵ (fat fullShare outT l₂ 0 (v′ m))) (sym same) refl $
         forget ! 20 refl $ forget ! 10 refl $ forget ! 8 refl $
-        second-pass t w (ws .0) ist (same ∙ len) (ready-from l unaltered r t (ws .0) e passed)))))))))
+        second-pass t w (ws .0) ist (same ∙ len) (ready-from l unaltered r t (ws .0) e passed) (passed-timed ys l (lent-fixes fs) r passed)))))))))
 
     -- where the first part begins: the locals are the two parameters
     abbrev AtFirst : List (Item 𝓤)
