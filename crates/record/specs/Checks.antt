@@ -14,7 +14,8 @@ use Rattle.distance.specs.Distance.{seconds}
 use Rattle.distance.specs.Box.{Box}
 use Rattle.record.specs.Format.{Kind, never, length-field, kind-field, mark-field, count-field, record-length, fixes}
 
--- ---- what a call is handed. Of the last part a call fills in what it takes; no check that it makes looks at the rest (`reading-alone` and the laws beside it in Laws/First.antt).
+-- ---- what a call is handed beside the bytes. A call fills in what it takes; no check that it makes looks at the rest (`reading-alone` and the laws beside it
+-- in Laws/First.antt).
 pub record Given : Type 0 where
   -- "The asked tolerance"
   pub tolerance : ℕ
@@ -61,11 +62,12 @@ unfoldable pub some-early : List Fix → Bool
 some-early [] = false
 some-early (f ∷ l) = some-early-after (f .t) l
 
--- what a test says of the first and the last fix; check 3 has seen to it that there are some
+-- the last of a list that begins with f
 unfoldable pub last-fix : Fix → List Fix → Fix
 last-fix f [] = f
 last-fix f (g ∷ l) = last-fix g l
 
+-- what a test says of the first and the last fix; check 3 has seen to it that there are some
 unfoldable pub of-ends : (Fix → Fix → Bool) → List Fix → Bool
 of-ends test [] = false
 of-ends test (f ∷ l) = test f (last-fix f l)

@@ -1,5 +1,6 @@
 -- THE WRITER. Document 01: "The writer takes a lent list of fixes and puts down the record marked never; it answers the record's length, and later
 -- bytes of the output don't change."
+use mathlib.Core.Path.{_≡_}
 use mathlib.Core.List.{List, [], _∷_, _++_}
 use mathlib.Core.Option.{Option}
 use Prim.Native.Nat.{ℕ, min}
@@ -7,8 +8,8 @@ use lib.ListN.{length, getD, drop}
 use lib.IntN.{ℤ, pos}
 use Rattle.distance.specs.Fix.{Fix, fixOf}
 use Rattle.distance.specs.declared.Fix.{Fix as CodeFix}
-use Rattle.record.specs.Format.{Kind, never, record-length, each, record-bytes}
-use Rattle.record.specs.Checks.{Asked, refusal, writing}
+use Rattle.record.specs.Format.{Kind, never, mark-field, record-length, each, fixes, record-bytes}
+use Rattle.record.specs.Checks.{Asked, refusal, writing, IsAccepted}
 use Rattle.record.specs.Answers.{Answer, answer, unless}
 
 -- What is asked of a list of fixes. Its checks 3, 7, 8, 9 and 15 look at the count, the fixes and the output, and at nothing else.
@@ -32,6 +33,12 @@ write-answer K l out = answer (write-refusal K l out) (record-length K (length l
 
 abbrev pub written : Kind → List Fix → List ℕ → List ℕ
 written K l out = unless (write-refusal K l out) out (record-bytes K never l ++ drop (record-length K (length l)) out)
+
+-- "Reading it gives the list again": the bytes begin with an accepted record, marked never, whose fixes are the list.
+pub record ReadsBack (K : Kind) (l : List Fix) (b : List ℕ) : Type 0 where
+  pub is-accepted : IsAccepted K b
+  pub is-never : mark-field b ≡ never
+  pub fixes-are : fixes K b ≡ l
 
 -- A lent list of fixes: what each says.
 abbrev pub lent-fixes : List CodeFix → List Fix

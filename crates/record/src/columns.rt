@@ -6,9 +6,11 @@ ghost use lib.Seq.{sets};
 ghost use Rattle.distance.specs.Fix.{fixOf};
 ghost use Rattle.record.specs.Format.{trail, each, all-bytes};
 ghost use Rattle.record.specs.Checks.{refusal, writing};
-ghost use Rattle.record.specs.Writing.{asked-to-write, column-fix, columns, write-answer, written};
+ghost use Rattle.record.specs.Writing.{asked-to-write, column-fix, columns, write-refusal, write-answer, written, ReadsBack};
 ghost use Rattle.record.specs.Answers.{refused, wrote};
-ghost use Rattle.record.specs.Laws.Scan.{Scanned};
+ghost use Rattle.record.specs.Laws.Scan.{Timed, Scanned};
+ghost use Rattle.distance.specs.Laws.All.{All};
+ghost use mathlib.Core.Option.{none};
 use crate::Checked;
 use crate::Scan;
 use crate::Written;
@@ -57,7 +59,7 @@ fn scan_columns(ts: &[u32], xs: &[i16], ys: &[i16], n: usize) -> Scan
 // All that the writer asks of n fixes, before it touches the output.
 fn columns_say(ts: &[u32], xs: &[i16], ys: &[i16], n: usize, output: usize) -> Checked
     requires { ⌜ (n ≤ length (now ts)) × (n ≤ length (now xs)) × (n ≤ length (now ys)) ⌝ }
-    ensures { λ r. ⌜ refused r ≡ refusal trail writing (asked-to-write (each (column-fix (now (ts .entry)) (now (xs .entry)) (now (ys .entry))) 0 n) output) ⌝ }
+    ensures { λ r. ⌜ (refused r ≡ refusal trail writing (asked-to-write (each (column-fix (now (ts .entry)) (now (xs .entry)) (now (ys .entry))) 0 n) output)) × All Timed (each (column-fix (now (ts .entry)) (now (xs .entry)) (now (ys .entry))) 0 n) ⌝ }
 {
     if n == 0 {
         return write_says(n, Checked::Accepted, output);
@@ -79,7 +81,7 @@ fn put_columns(ts: &[u32], xs: &[i16], ys: &[i16], n: usize, out: &mut [u8])
 
 // The record of the fixes that the three columns have, marked never.
 pub fn write(ts: &[u32], xs: &[i16], ys: &[i16], out: &mut [u8]) -> Written
-    ensures { λ r. ⌜ (wrote r ≡ write-answer trail (columns (now (ts .entry)) (now (xs .entry)) (now (ys .entry))) (now (out .entry))) × (now (out .exit) ≡ written trail (columns (now (ts .entry)) (now (xs .entry)) (now (ys .entry))) (now (out .entry))) ⌝ }
+    ensures { λ r. ⌜ (wrote r ≡ write-answer trail (columns (now (ts .entry)) (now (xs .entry)) (now (ys .entry))) (now (out .entry))) × (now (out .exit) ≡ written trail (columns (now (ts .entry)) (now (xs .entry)) (now (ys .entry))) (now (out .entry))) × (write-refusal trail (columns (now (ts .entry)) (now (xs .entry)) (now (ys .entry))) (now (out .entry)) ≡ none → ReadsBack trail (columns (now (ts .entry)) (now (xs .entry)) (now (ys .entry))) (now (out .exit))) ⌝ }
 {
     let n = least(ts.len(), least(xs.len(), ys.len()));
     let v = columns_say(ts, xs, ys, n, out.len());

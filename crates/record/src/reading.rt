@@ -42,10 +42,10 @@ pub fn read_on(b: &[u8], k: usize) -> usize
     k
 }
 
-// The lent bytes and a position in them. The branches of its functions are in the functions over plain bytes that they call.
+// The lent bytes and a position in them; `read` alone makes one. The branches of its functions are in the functions over plain bytes that they call.
 pub struct Reader<'a> {
-    pub bytes: &'a [u8],
-    pub at: usize,
+    bytes: &'a [u8],
+    at: usize,
 }
 
 // Where a reader of these bytes begins, after checks 1 to 9.

@@ -2,13 +2,14 @@
 ghost use mathlib.Core.Path.{_≡_};
 ghost use mathlib.Core.List.{List, [], _∷_, _++_};
 ghost use Prim.Native.Nat.{ℕ, _+_, _<_};
+ghost use mathlib.Core.Option.{none};
 ghost use lib.ListN.{length, getD};
 ghost use Rattle.distance.specs.Fix.{Fix as Plain, fixOf};
 ghost use Rattle.record.specs.Format.{trail};
 ghost use Rattle.record.specs.Checks.{first, sentence, fix-checks};
-ghost use Rattle.record.specs.Writing.{asked-to-write, lent-fixes, write-answer, written};
+ghost use Rattle.record.specs.Writing.{asked-to-write, lent-fixes, write-refusal, write-answer, written, ReadsBack};
 ghost use Rattle.record.specs.Answers.{refused, wrote};
-ghost use Rattle.record.specs.Laws.Passing.{Task, checks, Passed, Room-for, Ready, Finished, pen-answer, no-fix};
+ghost use Rattle.record.specs.Laws.Passing.{Task, checks, Passed, Room-for, Ready, Finished, stage-answer, no-fix};
 use crate::Checked;
 use crate::Scan;
 use crate::Written;
@@ -22,71 +23,71 @@ use distance::Fix;
 
 // What is to be done with the next fix of a pass: it is the first to be checked, a later one to be checked, one to be put at a place of the output, or
 // nothing is done with it since the list was refused.
-pub enum Pen {
+pub enum Stage {
     Begins,
     Checks(Scan),
     Puts(usize),
     Refused(u8),
 }
 
-fn pen_begins() -> Pen
+fn stage_begins() -> Stage
     ensures { λ r. ⌜ ((l : List ℕ) → Passed checks l [] r l) ⌝ }
 {
-    Pen::Begins
+    Stage::Begins
 }
 
 // One more fix of a pass.
-fn pen_step(out: &mut [u8], p: Pen, f: Fix) -> Pen
+fn stage_step(out: &mut [u8], p: Stage, f: Fix) -> Stage
     requires { ⌜ Room-for 1 p (length (now out)) ⌝ }
     ensures { λ r. ⌜ ((task : Task) (l : List ℕ) (s : List Plain) → Passed task l s p (now (out .entry)) → Passed task l (s ++ fixOf f ∷ []) r (now (out .exit))) × ((m : ℕ) → Room-for (m + 1) p (length (now (out .entry))) → Room-for m r (length (now (out .exit)))) ⌝ }
 {
     match p {
-        Pen::Begins => Pen::Checks(scan_first(f)),
-        Pen::Checks(s) => Pen::Checks(scan_next(s, f)),
-        Pen::Puts(at) => {
+        Stage::Begins => Stage::Checks(scan_first(f)),
+        Stage::Checks(s) => Stage::Checks(scan_next(s, f)),
+        Stage::Puts(at) => {
             put_fix(out, at, f);
-            Pen::Puts(at + 8)
+            Stage::Puts(at + 8)
         },
-        Pen::Refused(k) => Pen::Refused(k),
+        Stage::Refused(k) => Stage::Refused(k),
     }
 }
 
 // What checks 7 to 9 say after the first pass.
-fn pen_checked(p: Pen) -> Checked
+fn stage_checked(p: Stage) -> Checked
     ensures { λ r. ⌜ ((l c : List ℕ) (s : List Plain) (output : ℕ) → Passed checks l s p c → refused r ≡ first (sentence trail (asked-to-write s output)) fix-checks) ⌝ }
 {
     match p {
-        Pen::Checks(s) => scan_says(s),
-        Pen::Refused(k) => Checked::Refused(k),
-        Pen::Begins => Checked::Accepted,
-        Pen::Puts(_) => Checked::Accepted,
+        Stage::Checks(s) => scan_says(s),
+        Stage::Refused(k) => Checked::Refused(k),
+        Stage::Begins => Checked::Accepted,
+        Stage::Puts(_) => Checked::Accepted,
     }
 }
 
 // All of the writer's checks, between the passes over n fixes; the head is put down if none turns the list away.
-fn pen_ready(out: &mut [u8], n: usize, p: Pen) -> Pen
+fn stage_ready(out: &mut [u8], n: usize, p: Stage) -> Stage
     ensures { λ r. ⌜ ((s : List Plain) → length s ≡ n → Passed checks (now (out .entry)) s p (now (out .entry)) → Ready s (now (out .entry)) r (now (out .exit))) ⌝ }
 {
-    let v = write_says(n, pen_checked(p), out.len());
+    let v = write_says(n, stage_checked(p), out.len());
     match v {
-        Checked::Refused(k) => Pen::Refused(k),
+        Checked::Refused(k) => Stage::Refused(k),
         Checked::Accepted => {
             put_head(out, n as u32, 65535);
-            Pen::Puts(10)
+            Stage::Puts(10)
         },
     }
 }
 
-// The answer, after the second pass: where the pen stands is the record's length.
-fn pen_says(p: Pen) -> Written
+// The answer, after the second pass: where the stage stands is the record's length.
+fn stage_says(p: Stage) -> Written
     requires { ⌜ Finished p ⌝ }
-    ensures { λ r. ⌜ wrote r ≡ pen-answer p ⌝ }
+    ensures { λ r. ⌜ wrote r ≡ stage-answer p ⌝ }
 {
     match p {
-        Pen::Puts(at) => Written::Length(at as u32),
-        Pen::Refused(k) => Written::Refused(k),
-        Pen::Begins => Written::Refused(3),
-        Pen::Checks(_) => Written::Refused(3),
+        Stage::Puts(at) => Written::Length(at as u32),
+        Stage::Refused(k) => Written::Refused(k),
+        Stage::Begins => Written::Refused(3),
+        Stage::Checks(_) => Written::Refused(3),
     }
 }
 
@@ -99,26 +100,26 @@ fn fix_of(fixes: &[Fix], i: usize) -> Fix
 }
 
 // One pass over the lent list, from its first fix to its last.
-fn pass(fixes: &[Fix], out: &mut [u8], p: Pen) -> Pen
+fn pass(fixes: &[Fix], out: &mut [u8], p: Stage) -> Stage
     requires { ⌜ Room-for (length (now fixes)) p (length (now out)) ⌝ }
     ensures { λ r. ⌜ ((task : Task) (l : List ℕ) → Passed task l [] p (now (out .entry)) → Passed task l (lent-fixes (now (fixes .entry))) r (now (out .exit))) ⌝ }
 {
     let n = fixes.len();
-    let mut pen = p;
+    let mut stage = p;
     let mut i = 0;
     while i < n {
-        pen = pen_step(out, pen, fix_of(fixes, i));
+        stage = stage_step(out, stage, fix_of(fixes, i));
         i = i + 1;
     }
-    pen
+    stage
 }
 
 // The record of a lent list of fixes, marked never.
 pub fn write_fixes(fixes: &[Fix], out: &mut [u8]) -> Written
-    ensures { λ r. ⌜ (wrote r ≡ write-answer trail (lent-fixes (now (fixes .entry))) (now (out .entry))) × (now (out .exit) ≡ written trail (lent-fixes (now (fixes .entry))) (now (out .entry))) ⌝ }
+    ensures { λ r. ⌜ (wrote r ≡ write-answer trail (lent-fixes (now (fixes .entry))) (now (out .entry))) × (now (out .exit) ≡ written trail (lent-fixes (now (fixes .entry))) (now (out .entry))) × (write-refusal trail (lent-fixes (now (fixes .entry))) (now (out .entry)) ≡ none → ReadsBack trail (lent-fixes (now (fixes .entry))) (now (out .exit))) ⌝ }
 {
     let n = fixes.len();
-    let checked = pass(fixes, out, pen_begins());
-    let ready = pen_ready(out, n, checked);
-    pen_says(pass(fixes, out, ready))
+    let checked = pass(fixes, out, stage_begins());
+    let ready = stage_ready(out, n, checked);
+    stage_says(pass(fixes, out, ready))
 }

@@ -1,14 +1,16 @@
 -- What an accepted record gives, and when a record is accepted: its head, its mark, and its fixes.
-use mathlib.Core.Path.{_≡_, refl, sym, _∙_}
+use mathlib.Core.Path.{_≡_, refl, sym, _∙_, ap}
 use mathlib.Core.Bool.{Bool, true, false, not, _&&_}
 use mathlib.Core.List.{List, [], _∷_, _++_}
-use mathlib.Core.Option.{some, none}
-use Prim.Native.Nat.{ℕ, _+_, _*_, _<_, _≤_}
+use mathlib.Core.Option.{Option, some, none}
+use Prim.Native.Nat.{ℕ, zero, suc, _+_, _*_, _<_, _≤_}
 use native.Mathlib.Omega.{arith}
 use lib.Dec.{ltb, leb, eqb}
 use lib.ListN.{length, take, drop, length-append}
 use borrow.Author.Tests.{eqb-true, eqb-false, leb-false, le-leb, lt-leb, lt-ltb, not-false}
-use lib.IntN.{pos, negℤ}
+use lib.IntN.{ℤ, pos, negsuc, negℤ}
+use mir.Syntax.{w16}
+use mir.Val.{SFits}
 use lib.Signed.{ltZ, _≤ℤ_}
 use Rattle.distance.specs.Fix.{Fix, Placed, After, none-after, later, Rising, no-fix, rising}
 use Rattle.distance.specs.Distance.{seconds}
@@ -16,15 +18,16 @@ use Rattle.distance.specs.Laws.All.{All, all-none, all-more}
 use Rattle.distance.specs.Integers.Differences.{diffs}
 use Rattle.distance.specs.Integers.Order.{ltZ-false, le-of-ltZ}
 use Rattle.record.specs.Format.{trail, never, fix-at, record-bytes, length-field, mark-field, count-field, fixes}
-use Rattle.record.specs.Checks.{Asked, few-bytes, other-kind, bad-count, bad-length, short-record, bad-mark, short-output, sentence, first, head-checks, fix-checks, asked-of, nothing, refusal, writing, IsAccepted, outside, fix-outside, some-outside, some-early-after, some-early, last-fix, of-ends, too-long}
+use Rattle.record.specs.Checks.{Asked, read-refusal, few-bytes, other-kind, bad-count, bad-length, short-record, bad-mark, short-output, sentence, first, head-checks, fix-checks, asked-of, nothing, refusal, writing, IsAccepted, outside, fix-outside, some-outside, some-early-after, some-early, last-fix, of-ends, too-long}
 use Rattle.record.specs.Laws.First.{passes, NoneHolds, no-check, and-not, none-holds, none-first, none-front, first-none}
 use Rattle.record.specs.Laws.Head.{Head, says, positive, neither, accepted-head, not-few, not-other, count-good, length-same, not-short, mark-low, mark-never, mark-says, from-2, from-3, from-4, from-5, from-6}
 use Rattle.record.specs.Laws.Numbers.{false-true}
-use Rattle.record.specs.Laws.RoundTrip.{Reads, InRange, AreBytes, read-record, rewrites}
-use Rattle.record.specs.Reading.{yields, moves}
-use Rattle.record.specs.Laws.Reading.{stands-if, stands-past, yields-some, yields-none, moves-not}
-use Rattle.record.specs.Writing.{asked-to-write, write-refusal, written}
+use Rattle.record.specs.Laws.RoundTrip.{Reads, InRange, AreBytes, number-below, read-record, rewrites}
+use Rattle.record.specs.Reading.{yields, moves, begins, past-every-fix, told-refusal}
+use Rattle.record.specs.Laws.Reading.{stands-if, stands-past, yields-some, yields-none, moves-not, moves-to-next, tells-accepted, tells-refusal}
+use Rattle.record.specs.Writing.{asked-to-write, write-refusal, written, ReadsBack}
 use Rattle.record.specs.Laws.Writing.{writes-fit, length-record}
+use Rattle.record.specs.Laws.Scan.{Timed}
 use Rattle.distance.specs.Integers.Tests.{Test, holds, fails, test}
 
 -- ---- the fixes: checks 7 to 9 turn none away
@@ -160,16 +163,21 @@ writes-good l output h = go (none-holds (sentence trail (asked-to-write l output
     go (and-not h3 (and-not h7 (and-not h8 (and-not h9 (and-not h15 no-check))))) =
         (positive (length l) (eqb-false (length l) 0 (neither (eqb (length l) 0) (ltb 4096 (length l)) h3 .0)), record { inside = h7; ordered = h8; short = h9 })
 
-pub record WritesBack (l : List Fix) (b : List ℕ) : Type 0 where
-  pub reads : Reads 65535 l b
-  pub is-accepted : IsAccepted trail b
+-- a place within the limit and a time of 32 bits fit the bytes of a fix
+placed-fits : (z : ℤ) → negℤ (pos 16000) ≤ℤ z → z ≤ℤ pos 16000 → SFits w16 z
+placed-fits (pos n) low high = record { sfits = let h : n ≤ 16000 = omega (arith, simp diffs at high) in omega (arith, h) }
+placed-fits (negsuc n) low high = record { sfits = let h : n < 16000 = omega (arith, simp diffs at low) in omega (arith, h) }
 
-pub writes-back : (l : List Fix) (out : List ℕ) → All InRange l → write-refusal trail l out ≡ none → WritesBack l (written trail l out)
+in-range : {l : List Fix} → All Timed l → All (Placed 16000) l → All InRange l
+in-range all-none all-none = all-none
+in-range (all-more {m = f} h hs) (all-more g gs) = all-more (record { t32 = h .t32; x16 = placed-fits (f .x) (g .x-low) (g .x-high); y16 = placed-fits (f .y) (g .y-low) (g .y-high) }) (in-range hs gs)
+
+pub writes-back : (l : List Fix) (out : List ℕ) → All Timed l → write-refusal trail l out ≡ none → ReadsBack trail l (written trail l out)
 writes-back l out h n =
     let fit = writes-fit l (length out) n in
     let good = writes-good l (length out) n in
-    let r = read-record 65535 l (drop (10 + 8 * length l) out) (omega arith) (fit .0) h in
-    rw n (record { reads = r; is-accepted = accept 65535 l _ r (never-applied refl) (good .0) (fit .0) (long l (drop (10 + 8 * length l) out)) (good .1) })
+    let r = read-record 65535 l (drop (10 + 8 * length l) out) (omega arith) (fit .0) (in-range h (places-good 16000 l (good .1 .inside))) in
+    rw n (record { is-accepted = accept 65535 l _ r (never-applied refl) (good .0) (fit .0) (long l (drop (10 + 8 * length l) out)) (good .1); is-never = r .mark-reads; fixes-are = r .fixes-read })
   where
     long : (l : List Fix) (r : List ℕ) → 10 + 8 * length l ≤ length (record-bytes trail never l ++ r)
     long l r = omega (arith, length-append (record-bytes trail never l) r, length-record never l)
@@ -184,3 +192,56 @@ yields-fix b k a h = let g = accepted-good b a .head in yields-some b k (stands-
 
 pub yields-end : (b : List ℕ) (k : ℕ) → count-field b ≤ k → (yields trail b k ≡ none) × (moves trail b k ≡ k)
 yields-end b k h = (yields-none b k (stands-past b k h), moves-not b k (stands-past b k h))
+
+-- ---- A READER from its beginning: where it stands after i steps
+abbrev pub after-steps : ℕ → List ℕ → ℕ
+after-steps zero b = begins trail b
+after-steps (suc i) b = moves trail b (after-steps i b)
+
+-- of an accepted record: at fix i, as long as there is one, so it yields the fixes in order ..
+pub steps-on : (b : List ℕ) → IsAccepted trail b → (i : ℕ) → i ≤ count-field b → after-steps i b ≡ i
+steps-on b a zero h = rw (a .accepted) refl
+steps-on b a (suc i) h =
+    let g = accepted-good b a .head in
+    ap (moves trail b) (steps-on b a i (omega arith)) ∙ moves-to-next b i (count-field b) (omega arith) (omega arith) (g .whole) ∙ sym-one i
+  where
+    sym-one : (i : ℕ) → i + 1 ≡ suc i
+    sym-one i = omega arith
+
+pub reader-yields : (b : List ℕ) → IsAccepted trail b → (i : ℕ) → i < count-field b → yields trail b (after-steps i b) ≡ some (fix-at trail b i)
+reader-yields b a i h = rw (steps-on b a i (omega arith)) (yields-fix b i a h)
+
+-- .. and after the last it says that none is left, each time
+pub reader-ends : (b : List ℕ) → IsAccepted trail b → (j : ℕ) → yields trail b (after-steps (count-field b + j) b) ≡ none
+reader-ends b a j = yields-end b _ (stays j) .0
+  where
+    stays : (j : ℕ) → count-field b ≤ after-steps (count-field b + j) b
+    stays zero = let e : count-field b + 0 ≡ count-field b = omega arith in rw (e, steps-on b a (count-field b) (omega arith)) (omega arith)
+    stays (suc j) = let e : count-field b + suc j ≡ suc (count-field b + j) = omega arith in rw (e, yields-end b (after-steps (count-field b + j) b) (stays j) .1) (stays j)
+
+-- of refused bytes it yields none, each time: a count of two bytes is below the position at which it stands
+pub refused-yields-none : (b : List ℕ) (k : ℕ) → AreBytes b → read-refusal trail b ≡ some k → (i : ℕ) → (after-steps i b ≡ past-every-fix) × (yields trail b (after-steps i b) ≡ none)
+refused-yields-none b k h e i = (stood i, rw (stood i) (yields-end b past-every-fix below .0))
+  where
+    below : count-field b ≤ past-every-fix
+    below = omega (arith, number-below b 8 h)
+
+    stood : (i : ℕ) → after-steps i b ≡ past-every-fix
+    stood zero = rw e refl
+    stood (suc i) = ap (moves trail b) (stood i) ∙ yields-end b past-every-fix below .1
+
+-- and it says the same of the checks at each of its steps
+pub reader-tells : (b : List ℕ) → AreBytes b → (i : ℕ) → told-refusal trail b (after-steps i b) ≡ read-refusal trail b
+reader-tells b h i = go (read-refusal trail b) refl
+  where
+    within : IsAccepted trail b → (i : ℕ) → after-steps i b < past-every-fix
+    within a zero = rw (a .accepted) (omega arith)
+    within a (suc i) = go-on (test (count-field b) (after-steps i b)) (within a i)
+      where
+        go-on : {t : Bool} → Test (count-field b) (after-steps i b) t → after-steps i b < past-every-fix → moves trail b (after-steps i b) < past-every-fix
+        go-on (holds ended) w = rw (yields-end b (after-steps i b) ended .1) w
+        go-on (fails more) w = rw (moves-to-next b (after-steps i b) (count-field b) (omega arith) (omega arith) (accepted-good b a .head .whole)) (omega (arith, accepted-good b a .head .few-fixes))
+
+    go : (r : Option ℕ) → read-refusal trail b ≡ r → told-refusal trail b (after-steps i b) ≡ read-refusal trail b
+    go none e = tells-accepted b (after-steps i b) (within (record { accepted = e }) i) ∙ sym e
+    go (some k) e = tells-refusal b (after-steps i b) (rw (refused-yields-none b k h e i .0) (omega arith))

@@ -1,4 +1,4 @@
--- The writer's two passes over a lent list: what the pen says after the fixes passed so far, and that the second ends with the record.
+-- The writer's two passes over a lent list: what the stage says after the fixes passed so far, and that the second ends with the record.
 use mathlib.Core.Path.{_≡_, refl, sym, _∙_, ap}
 use mathlib.Core.List.{List, [], _∷_, _++_, append-nil}
 use mathlib.Core.Option.{Option, some, none}
@@ -9,16 +9,17 @@ use lib.IntN.{pos}
 use lib.ListN.{length, getD, length-append}
 use lib.Seq.{sets, length-sets}
 use Rattle.distance.specs.Fix.{Fix, fixOf}
+use Rattle.distance.specs.Laws.All.{All, all-none}
 use Rattle.distance.specs.declared.Fix.{Fix as CodeFix}
 use Rattle.record.specs.declared.Scan.{Scan}
-use Rattle.record.specs.declared.writing.Pen.{Pen}
-use Rattle.record.specs.declared.writing.Pen.the-variants.{Begins, Checks, Puts, Refused}
+use Rattle.record.specs.declared.writing.Stage.{Stage}
+use Rattle.record.specs.declared.writing.Stage.the-variants.{Begins, Checks, Puts, Refused}
 use Rattle.record.specs.Format.{trail, each, all-bytes, fix-bytes, header-bytes}
 use Rattle.record.specs.Checks.{first, fix-checks}
 use Rattle.record.specs.Writing.{lent-fixes, write-refusal, write-answer, written}
 use Rattle.record.specs.Answers.{Answer, gives, turns-away}
 use Rattle.record.specs.Laws.Each.{each-more, each-shift}
-use Rattle.record.specs.Laws.Scan.{Scanned}
+use Rattle.record.specs.Laws.Scan.{Timed, none-timed, Scanned}
 use Rattle.record.specs.Laws.Stores.{sets-then}
 use Rattle.record.specs.Laws.Writing.{says, length-all-bytes, all-bytes-more, writes-fit, writes-length, writes-record, writes-refusal, none-turned-away}
 
@@ -33,8 +34,8 @@ abbrev pub Scans : List Fix → Scan → Type 0
 Scans [] s = ⊥
 Scans (a ∷ l) s = Scanned a l s
 
--- a pass over an output that was l has passed the fixes s: what the pen says of them, and the output by then
-abbrev pub Passed : Task → (l : List ℕ) (s : List Fix) → Pen → List ℕ → Type 0
+-- a pass over an output that was l has passed the fixes s: what the stage says of them, and the output by then
+abbrev pub Passed : Task → (l : List ℕ) (s : List Fix) → Stage → List ℕ → Type 0
 Passed checks l s Begins c = (s ≡ []) × (c ≡ l)
 Passed checks l s (Checks r) c = Scans s r × (c ≡ l)
 Passed puts l s (Puts at) c = (at ≡ 10 + 8 * length s) × (c ≡ sets l 10 (all-bytes trail s))
@@ -48,32 +49,32 @@ Passed (turned k) l s Begins c = ⊥
 Passed (turned k) l s (Checks r) c = ⊥
 Passed (turned k) l s (Puts at) c = ⊥
 
--- a pen that puts fixes down has room for m more in an output of so many bytes
-abbrev pub Room-for : (m : ℕ) → Pen → ℕ → Type 0
+-- a stage that puts fixes down has room for m more in an output of so many bytes
+abbrev pub Room-for : (m : ℕ) → Stage → ℕ → Type 0
 Room-for m Begins output = Unit {0}
 Room-for m (Checks r) output = Unit {0}
 Room-for m (Puts at) output = at + 8 * m ≤ output
 Room-for m (Refused k) output = Unit {0}
 
 -- between the passes over the list s: it is refused and the output l is as it was, or the head is put down
-abbrev pub Ready : List Fix → List ℕ → Pen → List ℕ → Type 0
+abbrev pub Ready : List Fix → List ℕ → Stage → List ℕ → Type 0
 Ready s l Begins c = ⊥
 Ready s l (Checks r) c = ⊥
 Ready s l (Puts at) c = (at ≡ 10) × (write-refusal trail s l ≡ none) × (c ≡ sets l 0 (header-bytes trail 65535 (length s)))
 Ready s l (Refused k) c = (write-refusal trail s l ≡ some k) × (c ≡ l)
 
--- after them the pen stands at the record's end, or the list is refused
-abbrev pub Finished : Pen → Type 0
+-- after them the stage stands at the record's end, or the list is refused
+abbrev pub Finished : Stage → Type 0
 Finished Begins = ⊥
 Finished (Checks r) = ⊥
 Finished (Puts at) = at ≤ 32778
 Finished (Refused k) = Unit {0}
 
-abbrev pub pen-answer : Pen → Answer ℕ
-pen-answer Begins = turns-away 3
-pen-answer (Checks r) = turns-away 3
-pen-answer (Puts at) = gives at
-pen-answer (Refused k) = turns-away k
+abbrev pub stage-answer : Stage → Answer ℕ
+stage-answer Begins = turns-away 3
+stage-answer (Checks r) = turns-away 3
+stage-answer (Puts at) = gives at
+stage-answer (Refused k) = turns-away k
 
 -- what a list has where it has no fix; no contract reads it there
 abbrev pub no-fix : CodeFix
@@ -117,7 +118,7 @@ module _ (task : Task) (l : List ℕ) (s : List Fix) where
       go puts x = x
       go (turned j) x = x
 
-pub room-one : (p : Pen) (at output : ℕ) → p ≡ Puts at → Room-for 1 p output → at + 8 ≤ output
+pub room-one : (p : Stage) (at output : ℕ) → p ≡ Puts at → Room-for 1 p output → at + 8 ≤ output
 room-one p at output e h = let g : at + 8 * 1 ≤ output = (rw e at h) in omega (arith, g)
 
 pub room-left : (at m n output : ℕ) → n ≡ output → at + 8 * (m + 1) ≤ output → at + 8 + 8 * m ≤ n
@@ -133,24 +134,32 @@ passed-scan l c [] output q o h p = absurd (p .0)
 passed-scan l c (a ∷ m) output q o h p = h a m refl (p .0)
 
 -- the first pass asks for no room, and leaves the output alone
-pub first-room : (n : ℕ) (l : List ℕ) (r : Pen) → Passed checks l [] r l → Room-for n r (length l)
+pub first-room : (n : ℕ) (l : List ℕ) (r : Stage) → Passed checks l [] r l → Room-for n r (length l)
 first-room n l Begins h = tt
 first-room n l (Checks q) h = tt
 first-room n l (Puts at) h = absurd h
 first-room n l (Refused k) h = tt
 
-pub output-alone : (l : List ℕ) (s : List Fix) (r : Pen) (c : List ℕ) → Passed checks l s r c → c ≡ l
+pub output-alone : (l : List ℕ) (s : List Fix) (r : Stage) (c : List ℕ) → Passed checks l s r c → c ≡ l
 output-alone l s Begins c h = h .1
 output-alone l s (Checks q) c h = h .1
 output-alone l s (Puts at) c h = absurd h
 output-alone l s (Refused k) c h = absurd h
 
+-- and each fix that it passed has a time of 32 bits
+pub passed-timed : (l c : List ℕ) (s : List Fix) (r : Stage) → Passed checks l s r c → All Timed s
+passed-timed l c s Begins h = none-timed s (ap length (h .0))
+passed-timed l c [] (Checks q) h = all-none
+passed-timed l c (a ∷ m) (Checks q) h = h .0 .timed
+passed-timed l c s (Puts at) h = absurd h
+passed-timed l c s (Refused k) h = absurd h
+
 -- ---- between the passes, and after the second
 pub ready-refused : (s : List Fix) (l : List ℕ) (k : ℕ) → write-refusal trail s l ≡ some k → Ready s l (Refused k) l
 ready-refused s l k h = (h, refl)
 
--- what the pass is for that a pen begins
-abbrev pub task-of : Pen → Task
+-- what the pass is for that a stage begins
+abbrev pub task-of : Stage → Task
 task-of Begins = checks
 task-of (Checks r) = checks
 task-of (Puts at) = puts
@@ -158,7 +167,7 @@ task-of (Refused k) = turned k
 
 module _ (s : List Fix) (l : List ℕ) where
   -- the second pass has room, and begins with no fix put down
-  pub ready-room : (p : Pen) (c : List ℕ) → Ready s l p c → Room-for (length s) p (length c)
+  pub ready-room : (p : Stage) (c : List ℕ) → Ready s l p c → Room-for (length s) p (length c)
   ready-room Begins c x = tt
   ready-room (Checks r) c x = tt
   ready-room (Puts at) c (e, none-refused, holds) =
@@ -167,18 +176,18 @@ module _ (s : List Fix) (l : List ℕ) where
       omega (arith, e, fits, same)
   ready-room (Refused k) c x = tt
 
-  pub ready-passes : (p : Pen) (c : List ℕ) → Ready s l p c → Passed (task-of p) c [] p c
+  pub ready-passes : (p : Stage) (c : List ℕ) → Ready s l p c → Passed (task-of p) c [] p c
   unfolding all-bytes
   ready-passes Begins c x = absurd x
   ready-passes (Checks r) c x = absurd x
   ready-passes (Puts at) c (e, none-refused, holds) = (e, refl)
   ready-passes (Refused k) c x = (refl, refl)
 
-  -- so the pen ends as the writer does
-  pub passes-end : (p r : Pen) (c d : List ℕ) → Ready s l p c → Passed (task-of p) c s r d → Finished r × (pen-answer r ≡ write-answer trail s l) × (d ≡ written trail s l)
+  -- so the stage ends as the writer does
+  pub passes-end : (p r : Stage) (c d : List ℕ) → Ready s l p c → Passed (task-of p) c s r d → Finished r × (stage-answer r ≡ write-answer trail s l) × (d ≡ written trail s l)
   passes-end p r c d ready passed = go p r ready passed
     where
-      go : (p r : Pen) → Ready s l p c → Passed (task-of p) c s r d → Finished r × (pen-answer r ≡ write-answer trail s l) × (d ≡ written trail s l)
+      go : (p r : Stage) → Ready s l p c → Passed (task-of p) c s r d → Finished r × (stage-answer r ≡ write-answer trail s l) × (d ≡ written trail s l)
       go (Puts at) (Puts end) (e, none-refused, holds) (stands, put) =
           let few = writes-fit s (length l) none-refused .0 in
           (omega (arith, stands, few), ap gives stands ∙ writes-length s l (length s) refl none-refused, put ∙ rw holds (writes-record s l (length s) refl none-refused))
@@ -207,10 +216,10 @@ pub length-lent : (fs : List CodeFix) → length (lent-fixes fs) ≡ length fs
 length-lent [] = refl
 length-lent (f ∷ fs) = ap suc (length-lent fs)
 
-pub end-within : (p : Pen) (at : ℕ) → p ≡ Puts at → Finished p → at ≤ 32778
+pub end-within : (p : Stage) (at : ℕ) → p ≡ Puts at → Finished p → at ≤ 32778
 end-within p at e h = rw e at h
 
-module _ (fs : List CodeFix) (task : Task) (l : List ℕ) (r : Pen) (c : List ℕ) where
+module _ (fs : List CodeFix) (task : Task) (l : List ℕ) (r : Stage) (c : List ℕ) where
   pub pass-begins : Passed task l [] r c → Passed task l (each (at-position fs) 0 0) r c
   unfolding each
   pass-begins h = h
@@ -222,14 +231,14 @@ module _ (fs : List CodeFix) (task : Task) (l : List ℕ) (r : Pen) (c : List �
   pass-ends i e h = rw (← lent-each fs, ← e) h
 
 -- room for some is room for one, and what is left of it after one
-pub room-some : (m : ℕ) (p : Pen) (output : ℕ) → 1 ≤ m → Room-for m p output → Room-for 1 p output
+pub room-some : (m : ℕ) (p : Stage) (output : ℕ) → 1 ≤ m → Room-for m p output → Room-for 1 p output
 room-some m Begins output h r = tt
 room-some m (Checks q) output h r = tt
 room-some m (Puts at) output h r = omega (arith, h, r)
 room-some m (Refused k) output h r = tt
 
-pub room-begins : (n : ℕ) (p : Pen) (output : ℕ) → Room-for n p output → Room-for (n - 0) p output
+pub room-begins : (n : ℕ) (p : Stage) (output : ℕ) → Room-for n p output → Room-for (n - 0) p output
 room-begins n p output r = let e : n - 0 ≡ n = omega arith in rw e r
 
-pub room-next : (n i : ℕ) (p : Pen) (output : ℕ) → i < n → Room-for (n - i) p output → Room-for (n - (i + 1) + 1) p output
+pub room-next : (n i : ℕ) (p : Stage) (output : ℕ) → i < n → Room-for (n - i) p output → Room-for (n - (i + 1) + 1) p output
 room-next n i p output h r = let e : n - (i + 1) + 1 ≡ n - i = omega (arith, h) in rw e r

@@ -1,4 +1,4 @@
--- The reader: where a fix stands, and that an accepted record yields its fixes in order and then none, each time.
+-- The reader at a position: where a fix stands, what is yielded there, and what it says of the checks.
 use mathlib.Core.Path.{_≡_, refl, _∙_}
 use mathlib.Core.Bool.{Bool, true, false, cond, _&&_}
 use mathlib.Core.List.{List}

@@ -152,7 +152,7 @@ write-number b at (suc size) h f =
     let high : (x + 256 * n) / 256 ≡ n = omega arith in
     rw (low, high, drop-cons b at 0 (omega arith)) (ap (λ (l : List ℕ). x ∷ l) (write-number b (suc at) size h (omega arith)))
 
-number-below : (b : List ℕ) (at : ℕ) → AreBytes b → number-at b at 2 < 65536
+pub number-below : (b : List ℕ) (at : ℕ) → AreBytes b → number-at b at 2 < 65536
 unfolding number-at
 number-below b at h = omega (arith, byte-at at h, byte-at (suc at) h)
 

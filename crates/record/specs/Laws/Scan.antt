@@ -7,8 +7,10 @@ use Prim.Native.Nat.{ℕ, suc, _+_, _-_, _<_, _≤_}
 use native.Mathlib.Omega.{arith}
 use lib.Dec.{leb}
 use lib.IntN.{pos}
+use lib.ListN.{length}
 use Rattle.distance.specs.Fix.{Fix}
 use Rattle.distance.specs.Distance.{seconds}
+use Rattle.distance.specs.Laws.All.{All, all-none, all-more, all-append}
 use Rattle.distance.specs.Integers.Differences.{diffs}
 use Rattle.distance.specs.Integers.Order.{ltZ-true, ltZ-false}
 use Rattle.record.specs.declared.Scan.{Scan}
@@ -17,12 +19,21 @@ use Rattle.record.specs.Checks.{Asked, misplaced, unordered, long-span, 
 use Rattle.record.specs.Laws.Each.{each-more}
 use Rattle.record.specs.Laws.First.{stops, passes}
 
+-- a time is of 32 bits, which the code's type keeps
+pub record Timed (f : Fix) : Type 0 where
+  pub t32 : f .t < 4294967296
+
+pub none-timed : (l : List Fix) → length l ≡ 0 → All Timed l
+none-timed [] h = all-none
+none-timed (f ∷ l) h = absurd (omega arith)
+
 -- the pass has seen the fixes a ∷ l
 pub record Scanned (a : Fix) (l : List Fix) (s : Scan) : Type 0 where
   pub outside-is : s .outside ≡ some-outside 16000 (a ∷ l)
   pub early-is : s .early ≡ some-early (a ∷ l)
   pub first-is : s .first .0 ≡ a .t
   pub last-is : s .last .0 ≡ (last-fix a l) .t
+  pub timed : All Timed (a ∷ l)
 
 or-assoc : (x y z : Bool) → (x || y) || z ≡ x || (y || z)
 or-assoc true y z = refl
@@ -48,18 +59,19 @@ unfolding last-fix
 last-more a [] f = refl
 last-more a (b ∷ l) f = last-more b l f
 
-pub scanned-first : (a : Fix) (s : Scan) → s .outside ≡ fix-outside 16000 a → s .early ≡ false → s .first .0 ≡ a .t → s .last .0 ≡ a .t → Scanned a [] s
+pub scanned-first : (a : Fix) (s : Scan) → s .outside ≡ fix-outside 16000 a → s .early ≡ false → s .first .0 ≡ a .t → s .last .0 ≡ a .t → a .t < 4294967296 → Scanned a [] s
 unfolding some-outside some-early some-early-after last-fix
-scanned-first a s p q r t = record { outside-is = p ∙ sym (or-false _); early-is = q; first-is = r; last-is = t }
+scanned-first a s p q r t h = record { outside-is = p ∙ sym (or-false _); early-is = q; first-is = r; last-is = t; timed = all-more (record { t32 = h }) all-none }
 
 pub scanned-more : (a : Fix) (l : List Fix) (f : Fix) (s r : Scan) → Scanned a l s → r .outside ≡ s .outside || fix-outside 16000 f → r .early ≡ s .early || leb (f .t) (s .last .0)
-    → r .first .0 ≡ s .first .0 → r .last .0 ≡ f .t → Scanned a (l ++ f ∷ []) r
+    → r .first .0 ≡ s .first .0 → r .last .0 ≡ f .t → f .t < 4294967296 → Scanned a (l ++ f ∷ []) r
 unfolding some-early
-scanned-more a l f s r h p q u v = record {
+scanned-more a l f s r h p q u v w = record {
   outside-is = p ∙ ap (λ (t : Bool). t || fix-outside 16000 f) (h .outside-is) ∙ sym (outside-more (a ∷ l) f);
   early-is = q ∙ rw (h .early-is, h .last-is) (sym (early-more a l f));
   first-is = u ∙ h .first-is;
   last-is = v ∙ rw (last-more a l f) refl;
+  timed = all-append (h .timed) (all-more (record { t32 = w }) all-none);
 }
 
 -- ---- the loop over positions: the fixes 0 to k − 1 are passed

@@ -43,9 +43,6 @@ stored-then {b} {c} {d} {l} {m} {at} {r} {s} p q = record {
 pub nothing-stored : (b : List ℕ) (at : ℕ) → Stored b at b at []
 nothing-stored b at = record { ends = omega arith; holds-it = refl }
 
-pub stored-length : {b c l : List ℕ} {at r : ℕ} → Stored b at c r l → length c ≡ length b
-stored-length {b} {c} {l} {at} p = ap length (p .holds-it) ∙ length-sets b at l
-
 -- the line of a fix that is there
 abbrev pub step-text : Option Fix → List ℕ
 step-text (some f) = fix-line f
@@ -205,10 +202,6 @@ lines-onward {b} {ys} {zs} {l} {p} {k} {end} {r} x h e s t = record {
   stored = lines-more (fix-at trail b) (fix-at trail b k) k refl (h .stored) (let g = s in rw e at g);
   not-past = omega (arith, h .not-past);
 }
-
-pub record-text-is : (count mark : ℕ) (l : List Fix) → record-text count mark l ≡ first-line count mark ++ (fix-lines l ++ end-line)
-unfolding record-text
-record-text-is count mark l = refl
 
 -- ---- the whole text: an opening line, the lines of fixes, and a closing line
 abbrev pub opening-of : Option ℕ → (count mark : ℕ) → List ℕ

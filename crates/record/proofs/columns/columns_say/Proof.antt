@@ -5,6 +5,7 @@ use Rattle.record.specs.Format.{each}
 use Rattle.record.specs.Writing.{asked-to-write, column-fix}
 use Rattle.record.specs.Laws.Each.{length-each, each-first}
 use Rattle.record.specs.Laws.Head.{positive}
+use Rattle.record.specs.Laws.Scan.{none-timed}
 use Rattle.record.specs.Laws.Writing.{none-turned-away}
 use Rattle.record.proofs.columns.columns_say.Statement.{statement}
 use Rattle.record.proofs.columns.columns_say.Tie as tie
@@ -16,7 +17,7 @@ returns : tie.Need-returns
 returns c =
     let s = c .before .before .before in
     let l = each (column-fix (now (s .args .ts)) (now (s .args .xs)) (now (s .args .ys))) 0 (s .args .n) in
-    c .write-says .ensures .0 l (length-each _ 0 _) (none-turned-away l _ (length-each _ 0 _ ∙ c .before .if1 .taken))
+    (c .write-says .ensures .0 l (length-each _ 0 _) (none-turned-away l _ (length-each _ 0 _ ∙ c .before .if1 .taken)), none-timed l (length-each _ 0 _ ∙ c .before .if1 .taken))
 
 scan-columns-requires : tie.Need-scan-columns-requires
 scan-columns-requires c κs = search needs
@@ -32,8 +33,9 @@ returns-2 c =
     let s = c .before .before .before .before .before in
     let f = column-fix (now (s .args .ts)) (now (s .args .xs)) (now (s .args .ys)) in
     let l = each f 0 (s .args .n) in
-    c .write-says2 .ensures .0 l (length-each _ 0 _)
-    (c .before .scan-says .ensures (asked-to-write l (s .args .output)) _ _ (each-first f 0 (s .args .n) (positive _ (c .before .before .before .if1 .left))) (c .before .before .scan-columns .ensures))
+    let e = each-first f 0 (s .args .n) (positive _ (c .before .before .before .if1 .left)) in
+    let scanned = c .before .before .scan-columns .ensures in
+    (c .write-says2 .ensures .0 l (length-each _ 0 _) (c .before .scan-says .ensures (asked-to-write l (s .args .output)) _ _ e scanned), rw e (scanned .timed))
 
 pub columns-say-spec : {M : Type 1} → statement M
 columns-say-spec =

@@ -1,4 +1,4 @@
-use mathlib.Core.Path.{_≡_, refl, sym, _∙_, ap}
+use mathlib.Core.Path.{_≡_, refl, sym, _∙_, ap, subst}
 use mathlib.Core.List.{List}
 use mathlib.Core.Option.{none}
 use Prim.Native.Nat.{ℕ, _+_, _*_, _≤_, min}
@@ -7,8 +7,12 @@ use lib.Seq.{sets, length-sets}
 use denote.Ref.{now}
 use Rattle.distance.specs.Fix.{Fix}
 use Rattle.record.specs.Format.{trail, each, all-bytes, header-bytes}
-use Rattle.record.specs.Writing.{column-fix, columns, write-refusal}
+use Rattle.record.specs.Writing.{column-fix, columns, write-refusal, ReadsBack}
 use Rattle.record.specs.Answers.{refused}
+use Rattle.distance.specs.Laws.All.{All}
+use Rattle.record.specs.Laws.First.{some-none}
+use Rattle.record.specs.Laws.Scan.{Timed}
+use Rattle.record.specs.Laws.Accepted.{writes-back}
 use Rattle.record.specs.Laws.Each.{length-each}
 use Rattle.record.specs.Laws.Writing.{writes-fit, writes-length, writes-record, writes-refusal}
 use native.Mathlib.Omega.{arith}
@@ -32,7 +36,12 @@ length-is c = length-each _ 0 _ ∙ sym (count-is c)
 
 -- .. and the verdict is the writer's
 verdict-is : (c : tie.After-columns-say) → refused (c .columns-say .result) ≡ write-refusal trail (lent (c .before .before .before .before .before)) (output (c .before .before .before .before .before))
-verdict-is c = c .columns-say .ensures ∙ rw (count-is (c .before)) refl
+verdict-is c = c .columns-say .ensures .0 ∙ rw (count-is (c .before)) refl
+
+timed : (c : tie.After-columns-say) → All Timed (lent (c .before .before .before .before .before))
+timed c =
+    let s = c .before .before .before .before .before in
+    subst (λ (k : ℕ). All Timed (each (column-fix (now (s .args .ts)) (now (s .args .xs)) (now (s .args .ys))) 0 k)) (count-is (c .before)) (c .columns-say .ensures .1)
 
 accepted : (c : tie.After-enum-told) → write-refusal trail (lent (c .before .before .before .before .before .before .before)) (output (c .before .before .before .before .before .before .before)) ≡ none
 accepted c = sym (verdict-is (c .before .before)) ∙ ap refused (c .enum-told .given .1)
@@ -74,7 +83,8 @@ add-t20 : tie.Need-add-t20
 add-t20 c = let h = fit (c .before .before .before .before .before .before .before .before) in search needs
 
 returns : tie.Need-returns
-returns c = writes-refusal (lent (c .before .before .before .before .before .before .before .before)) (output (c .before .before .before .before .before .before .before .before)) _ (sym (verdict-is (c .before .before .before)) ∙ ap refused (c .before .v .given .1))
+returns c = let k = writes-refusal (lent (c .before .before .before .before .before .before .before .before)) (output (c .before .before .before .before .before .before .before .before)) _ (sym (verdict-is (c .before .before .before)) ∙ ap refused (c .before .v .given .1)) in
+    let e = sym (verdict-is (c .before .before .before)) ∙ ap refused (c .before .v .given .1) in (k .0, k .1, λ h. absurd (some-none (sym e ∙ h)))
 
 same-length : tie.Need-same-length
 same-length c = search needs
@@ -85,13 +95,13 @@ returns-2 c =
     let f = column-fix (now (s .args .ts)) (now (s .args .xs)) (now (s .args .ys)) in
     let n = c .before .before .before .before .before .before .before .before .before .before .before .least2 .result in
     let is = length-is (c .before .before .before .before .before .before .before .before .before .before .before) in
-    let a = accepted (c .before .before .before .before .before .before .before .before) in (
-      writes-length (lent s) (output s) n is a,
-      c .before .before .put-columns .ensures
-          ∙ ap (λ (o : List ℕ). sets o 10 (all-bytes trail (each f 0 n))) (c .before .before .before .before .before .before .put-head .ensures)
-          ∙ ap (λ (k : ℕ). sets (sets (output s) 0 (header-bytes trail 65535 n)) 10 (all-bytes trail (each f 0 k))) (count-is (c .before .before .before .before .before .before .before .before .before .before .before))
-          ∙ writes-record (lent s) (output s) n is a,
-    )
+    let a = accepted (c .before .before .before .before .before .before .before .before) in
+    let put =
+    c .before .before .put-columns .ensures
+    ∙ ap (λ (o : List ℕ). sets o 10 (all-bytes trail (each f 0 n))) (c .before .before .before .before .before .before .put-head .ensures)
+    ∙ ap (λ (k : ℕ). sets (sets (output s) 0 (header-bytes trail 65535 n)) 10 (all-bytes trail (each f 0 k))) (count-is (c .before .before .before .before .before .before .before .before .before .before .before))
+    ∙ writes-record (lent s) (output s) n is a in
+    (writes-length (lent s) (output s) n is a, put, λ _. subst (ReadsBack trail (lent s)) (sym put) (writes-back (lent s) (output s) (timed (c .before .before .before .before .before .before .before .before .before .before)) a))
 
 pub write-spec : {M : Type 1} → statement M
 write-spec =

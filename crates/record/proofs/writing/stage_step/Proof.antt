@@ -1,7 +1,7 @@
 use Rattle.record.specs.Laws.Passing.{pass-first, pass-next, pass-put, pass-refused, room-one, room-left}
 use borrow.Author.Needs.{needs}
-use Rattle.record.proofs.writing.pen_step.Statement.{statement}
-use Rattle.record.proofs.writing.pen_step.Tie as tie
+use Rattle.record.proofs.writing.stage_step.Statement.{statement}
+use Rattle.record.proofs.writing.stage_step.Tie as tie
 
 enum-told : tie.Need-enum-told
 enum-told c = search needs
@@ -42,8 +42,8 @@ returns-3 c = rw (c .before .before .before .before .before .p2 .given .1) ((λ 
 returns-4 : tie.Need-returns-4
 returns-4 c = rw (c .before .p3 .given .1) ((λ task l s. pass-refused task l s _ _ _), λ m _. tt)
 
-pub pen-step-spec : {M : Type 1} → statement M
-pen-step-spec =
+pub stage-step-spec : {M : Type 1} → statement M
+stage-step-spec =
     tie.close
     (tie.spec
     enum-told

@@ -1,8 +1,8 @@
 use mathlib.Core.Path.{refl}
 use Rattle.record.specs.Laws.Passing.{end-within}
 use borrow.Author.Needs.{needs}
-use Rattle.record.proofs.writing.pen_says.Statement.{statement}
-use Rattle.record.proofs.writing.pen_says.Tie as tie
+use Rattle.record.proofs.writing.stage_says.Statement.{statement}
+use Rattle.record.proofs.writing.stage_says.Tie as tie
 
 enum-known-p : tie.Need-enum-known-p
 enum-known-p c = search needs
@@ -31,8 +31,8 @@ returns-3 c = search needs
 returns-4 : tie.Need-returns-4
 returns-4 c = search needs
 
-pub pen-says-spec : {M : Type 1} → statement M
-pen-says-spec =
+pub stage-says-spec : {M : Type 1} → statement M
+stage-says-spec =
     tie.close
     (tie.spec
     enum-known-p

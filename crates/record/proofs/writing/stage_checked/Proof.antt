@@ -1,8 +1,8 @@
 use Rattle.record.specs.Writing.{asked-to-write}
 use Rattle.record.specs.Laws.Passing.{passed-none, passed-scan}
 use borrow.Author.Needs.{needs}
-use Rattle.record.proofs.writing.pen_checked.Statement.{statement}
-use Rattle.record.proofs.writing.pen_checked.Tie as tie
+use Rattle.record.proofs.writing.stage_checked.Statement.{statement}
+use Rattle.record.proofs.writing.stage_checked.Tie as tie
 
 enum-known-p : tie.Need-enum-known-p
 enum-known-p c = search needs
@@ -31,8 +31,8 @@ returns-3 c = rw (c .enum-told .given .1) passed-none
 returns-4 : tie.Need-returns-4
 returns-4 c = rw (c .enum-told2 .given .1) (λ l k s output x. absurd x)
 
-pub pen-checked-spec : {M : Type 1} → statement M
-pen-checked-spec =
+pub stage-checked-spec : {M : Type 1} → statement M
+stage-checked-spec =
     tie.close
     (tie.spec
     enum-known-p

@@ -3,11 +3,11 @@ use native.Mathlib.Omega.{arith}
 use Rattle.record.specs.Answers.{refused}
 use Rattle.record.specs.Laws.Passing.{ready-refused}
 use borrow.Author.Needs.{needs}
-use Rattle.record.proofs.writing.pen_ready.Statement.{statement}
-use Rattle.record.proofs.writing.pen_ready.Tie as tie
+use Rattle.record.proofs.writing.stage_ready.Statement.{statement}
+use Rattle.record.proofs.writing.stage_ready.Tie as tie
 
-pen-checked-requires : tie.Need-pen-checked-requires
-pen-checked-requires c κs = search needs
+stage-checked-requires : tie.Need-stage-checked-requires
+stage-checked-requires c κs = search needs
 
 write-says-requires : tie.Need-write-says-requires
 write-says-requires c κs = search needs
@@ -25,19 +25,19 @@ put-head-requires : tie.Need-put-head-requires
 put-head-requires c κs = let h = c .before .before .before .write-says .ensures .1 (ap refused (c .before .enum-told .given .1)) in (h .0, omega (arith, h .1))
 
 returns : tie.Need-returns
-returns c = λ s e h. ready-refused s _ _ (sym (c .before .before .before .write-says .ensures .0 s e (c .before .before .before .before .pen-checked .ensures _ _ s _ h)) ∙ ap refused (c .before .v .given .1))
+returns c = λ s e h. ready-refused s _ _ (sym (c .before .before .before .write-says .ensures .0 s e (c .before .before .before .before .stage-checked .ensures _ _ s _ h)) ∙ ap refused (c .before .v .given .1))
 
 same-length : tie.Need-same-length
 same-length c = search needs
 
 returns-2 : tie.Need-returns-2
-returns-2 c = λ s e h. (refl, sym (c .before .before .before .before .before .before .write-says .ensures .0 s e (c .before .before .before .before .before .before .before .pen-checked .ensures _ _ s _ h)) ∙ ap refused (c .before .before .before .before .enum-told .given .1), c .before .before .put-head .ensures ∙ rw e refl)
+returns-2 c = λ s e h. (refl, sym (c .before .before .before .before .before .before .write-says .ensures .0 s e (c .before .before .before .before .before .before .before .stage-checked .ensures _ _ s _ h)) ∙ ap refused (c .before .before .before .before .enum-told .given .1), c .before .before .put-head .ensures ∙ rw e refl)
 
-pub pen-ready-spec : {M : Type 1} → statement M
-pen-ready-spec =
+pub stage-ready-spec : {M : Type 1} → statement M
+stage-ready-spec =
     tie.close
     (tie.spec
-    pen-checked-requires
+    stage-checked-requires
     write-says-requires
     enum-known-v
     enum-told
