@@ -64,6 +64,9 @@ enum {
 /* The most bytes that a record has. */
 #define TRAILS_LONGEST 32778u
 
+/* The most bytes that a listing has. */
+#define TRAILS_TEXT 118805u
+
 /* What a record's head says. Where refusal isn't 0, count and mark are 0. */
 struct trails_head {
     uint32_t refusal;
@@ -129,6 +132,15 @@ struct trails_answer trails_write(const uint32_t *t, size_t t_count,
                                   const int16_t *y, size_t y_count,
                                   uint8_t *output, size_t output_bytes);
 
+/* The listing of the lent bytes, as text for people: "trail", the count and the
+ * mark or "never"; a line "fix" with time, x and y for each fix; and "end". Makes
+ * checks 1 to 9; where one fails, the text is one line, "refused" and the number.
+ * Every line ends with a line feed, and nothing follows the last. The answer is
+ * the text's length, at most TRAILS_TEXT; the text stands at the output's start,
+ * and the output's later bytes are as before. */
+size_t trails_list(const uint8_t *record, size_t lent,
+                   uint8_t output[TRAILS_TEXT]);
+
 /* Ages the record by tolerance, in centimetres. A shift's first thinning and
  * each later one are this same call. Makes checks 1 to 10. Where none fails, the
  * record's fixes are thinned at the tolerance by Douglas-Peucker: of a span every
@@ -181,12 +193,17 @@ struct trails_crossing trails_crosses(const uint8_t *record, size_t lent,
                                       int32_t left, int32_t right,
                                       int32_t bottom, int32_t top);
 
-/* Makes all agings of a list, one after the other, and then asks the crossing. A
- * call below 65,536 is trails_age at that tolerance, and one from there on is
- * trails_age_by_days at call % 65,536 days. Refused ones change nothing, and those
- * after them are made. The answer, and each byte afterwards, are what these calls
- * and trails_crosses give one by one, so where the crossing is refused for its
- * window or its box, the agings are made nevertheless. STACK: as trails_age.
+/* Makes all agings of a list, one after the other. A call below 65,536 is
+ * trails_age at that tolerance, and one from there on is trails_age_by_days at
+ * call % 65,536 days. Refused ones change nothing, and those after them are made.
+ * Each byte afterwards is what these calls give one by one. STACK: as trails_age. */
+void trails_run(uint8_t *record, size_t lent,
+                const uint32_t *calls, size_t call_count);
+
+/* Makes all agings of a list, as trails_run does, and then asks the crossing. The
+ * answer, and each byte afterwards, are what these calls and trails_crosses give
+ * one by one, so where the crossing is refused for its window or its box, the
+ * agings are made nevertheless. STACK: as trails_age.
  * Of a record marked TRAILS_NEVER, the original, let E be the greatest tolerance
  * applied, or 0 if none was. Then the fixes left are those that thinning the
  * original once at E keeps, or all where none was applied; and

@@ -83,6 +83,9 @@ pub struct Crossing {
     pub denominator: u32,
 }
 
+/// The most bytes that a listing has.
+pub const LONGEST_TEXT: usize = 118_805;
+
 extern "C" {
     fn trails_check(record: *const u8, lent: usize) -> Head;
     fn trails_read(record: *const u8, lent: usize, position: usize) -> Step;
@@ -96,6 +99,7 @@ extern "C" {
         output: *mut u8,
         output_bytes: usize,
     ) -> Answer;
+    fn trails_list(record: *const u8, lent: usize, output: *mut [u8; LONGEST_TEXT]) -> usize;
     fn trails_age(record: *mut u8, lent: usize, tolerance: u16) -> Answer;
     fn trails_age_by_days(record: *mut u8, lent: usize, days: u16) -> Answer;
     fn trails_place(record: *const u8, lent: usize, second: u32, thousandths: u16) -> Place;
@@ -109,6 +113,7 @@ extern "C" {
         bottom: i32,
         top: i32,
     ) -> Crossing;
+    fn trails_run(record: *mut u8, lent: usize, calls: *const u32, call_count: usize);
     fn trails_crosses_after(
         record: *mut u8,
         lent: usize,
@@ -150,6 +155,10 @@ pub fn write(t: &[u32], x: &[i16], y: &[i16], output: &mut [u8]) -> Answer {
     }
 }
 
+pub fn list(record: &[u8], output: &mut [u8; LONGEST_TEXT]) -> usize {
+    unsafe { trails_list(record.as_ptr(), record.len(), output) }
+}
+
 pub fn age(record: &mut [u8], tolerance: u16) -> Answer {
     unsafe { trails_age(record.as_mut_ptr(), record.len(), tolerance) }
 }
@@ -174,6 +183,17 @@ pub fn crosses(record: &[u8], question: &Question) -> Crossing {
             area.right,
             area.bottom,
             area.top,
+        )
+    }
+}
+
+pub fn run(record: &mut [u8], calls: &[u32]) {
+    unsafe {
+        trails_run(
+            record.as_mut_ptr(),
+            record.len(),
+            calls.as_ptr(),
+            calls.len(),
         )
     }
 }

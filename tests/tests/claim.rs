@@ -4,7 +4,7 @@
 
 use trails_tests::agings::{some_calls, Book, Buffer, Call};
 use trails_tests::cases::{Cases, Random, Settings};
-use trails_tests::interface::{crosses_after, Crossing};
+use trails_tests::interface::{crosses_after, run, Crossing};
 use trails_tests::plain::crossing::{crosses, telling_times, Area, Question, Window};
 use trails_tests::plain::place::{Place, Time};
 use trails_tests::plain::{record_length, Fix, MOST_FIXES};
@@ -52,6 +52,9 @@ impl Run {
         let mut buffer = Buffer::never_thinned(name, fixes, &mut self.random);
         let before = buffer.bytes.clone();
         let answer = crosses_after(&mut buffer.bytes, &numbers, question);
+        let mut unasked = before.clone();
+        run(&mut unasked, &numbers);
+        assert_eq!(unasked, buffer.bytes, "{}", buffer.name);
         let book = leaves_what_the_book_says(&buffer, &before, fixes, calls);
         agrees(answer, crosses(&buffer.bytes, question), &buffer.name);
         let e = book.e.unwrap_or(0);

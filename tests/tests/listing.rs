@@ -7,6 +7,7 @@ use std::io::{ErrorKind, Write};
 use std::process::{ChildStdin, Command, Stdio};
 
 use trails_tests::cases::{Cases, Draft, Random, Settings};
+use trails_tests::interface::{self, LONGEST_TEXT};
 use trails_tests::plain::{self, Fix, LONGEST, MOST_FIXES};
 
 fn program() -> String {
@@ -166,4 +167,22 @@ fn random_records_are_listed_as_the_plain_version_does() {
         lists_like_plain(&case.bytes, piece.max(1), &case.name);
     }
     println!("listing: {} of {} cases", cases.len() / every, cases.len());
+}
+
+#[test]
+fn the_interface_lists_every_case_and_leaves_the_rest_of_the_output() {
+    let cases = Cases::all(Settings::get());
+    let mut output = [0x5A; LONGEST_TEXT];
+    for case in cases.iter() {
+        let length = interface::list(&case.bytes, &mut output);
+        let (text, rest) = output.split_at(length);
+        assert_eq!(
+            text,
+            plain::listing(&case.bytes).as_bytes(),
+            "{}",
+            case.name
+        );
+        assert!(rest.iter().all(|&byte| byte == 0x5A), "{}", case.name);
+        output[..length].fill(0x5A);
+    }
 }

@@ -7,7 +7,11 @@ use distance::Tolerance;
 use thinning::Aged;
 use thinning::Days;
 ghost use mathlib.Core.Path.{_≡_};
+ghost use mathlib.Core.List.{_++_};
+ghost use Prim.Native.Nat.{_≤_};
+ghost use lib.ListN.{length, drop};
 ghost use Rattle.record.specs.Format.{trail};
+ghost use Rattle.record.specs.Text.{text};
 ghost use Rattle.record.specs.Reading.{yields};
 ghost use Rattle.record.specs.Writing.{columns, write-answer, written};
 ghost use Rattle.thinning.specs.Answers.{counted};
@@ -134,6 +138,14 @@ pub extern "C" fn trails_write(t: &[u32], x: &[i16], y: &[i16], out: &mut [u8]) 
             value: 0,
         },
     }
+}
+
+// The listing's text of the lent bytes, at the start of the output, and its length.
+#[no_mangle]
+pub extern "C" fn trails_list(b: &[u8], out: &mut [u8; 118805]) -> usize
+    ensures { λ r. ⌜ (r ≡ length (text trail (now (b .entry)))) × (r ≤ 118805) × (now (out .exit) ≡ text trail (now (b .entry)) ++ drop r (now (out .entry))) ⌝ }
+{
+    record::list(b, out)
 }
 
 // What an aging answers, as numbers.

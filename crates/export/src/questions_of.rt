@@ -114,6 +114,14 @@ pub extern "C" fn trails_crosses(
     crossing_of(c)
 }
 
+// Makes the agings of a list, one after the other.
+#[no_mangle]
+pub extern "C" fn trails_run(b: &mut [u8], calls: &[u32])
+    ensures { λ _. ⌜ now (b .exit) ≡ run (now (b .entry)) (calls-of (now (calls .entry))) ⌝ }
+{
+    questions::call_all(b, calls);
+}
+
 // Makes the agings of a list, one after the other, and then asks whether what is left crosses a box in a window.
 #[no_mangle]
 pub extern "C" fn trails_crosses_after(
