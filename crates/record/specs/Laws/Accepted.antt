@@ -150,10 +150,6 @@ span-good a l h =
     let g : seconds a b ≤ℤ pos 65535 = le-of-ltZ h in
     omega (arith, simp diffs at g)
 
-pub good-span : (a : Fix) (l : List Fix) → (last-fix a l) .t ≤ a .t + 65535 → of-ends too-long (a ∷ l) ≡ false
-unfolding of-ends
-good-span a l h = ltZ-false {x = pos 65535} {y = seconds a (last-fix a l)} (simp diffs (omega arith))
-
 -- ---- THE ROUND TRIP of the writer: what it puts down is accepted, and reads as the list that it was lent, marked never
 writes-good : (l : List Fix) (output : ℕ) → refusal trail writing (asked-to-write l output) ≡ none → (1 ≤ length l) × GoodFixes l
 unfolding sentence

@@ -7,7 +7,7 @@ use native.Mathlib.Omega.{arith}
 use lib.Dec.{T}
 use mathlib.Core.Option.{Option, some, none}
 use lib.ListN.{length, getD, take, drop, set, length-append}
-use lib.Seq.{sets, length-sets, length-take-le, take-suc}
+use lib.Seq.{sets, length-take-le, take-suc}
 use native.Mathlib.Nat.{pow-suc}
 use native.Mathlib.Numerals.{add-one}
 use lib.Signed.{nonNeg, ltZ}

@@ -1,8 +1,8 @@
 -- `fix_of` meets its contract, by hand. The place of `fixes[i]` is 8 i past the list's pointer. The list is looked into, fix i is taken out of the row, copied
 -- and put back. The list may be copied, and so may a fix: what each owns is had twice, one to keep and one to look into or to answer.
 -- The code has no check of the bound: the contract asks for it.
-use mathlib.Core.Path.{_≡_, refl, sym}
-use Prim.Native.Nat.{ℕ, _+_, _*_, _<_, _^_}
+use mathlib.Core.Path.{refl, sym}
+use Prim.Native.Nat.{ℕ, _*_, _<_, _^_}
 use mathlib.Core.List.{List, [], _∷_}
 use native.Mathlib.Omega.{arith}
 use lib.ListN.{length, getD}

@@ -1,5 +1,4 @@
 use mathlib.Core.Path.{refl}
-use borrow.Author.Needs.{needs}
 use Rattle.record.proofs.writing.stage_begins.Statement.{statement}
 use Rattle.record.proofs.writing.stage_begins.Tie as tie
 
