@@ -7,7 +7,7 @@
 --     more, leave a turn that lists a fix, and the one that leaves the loop, with the rest of the body
 --     reads, opens the two parts of the body before the loop, up to and with a call on the output
 use mathlib.Core.Path.{_≡_, refl, sym, ap, subst, _∙_}
-use mathlib.Core.Logic.{_⊎_, inl, inr}
+use mathlib.Core.Logic.{inl, inr}
 use mathlib.Core.Bool.{Bool, true, false}
 use mathlib.Core.WellFounded.{WellFounded, InvImage·wf}
 use Prim.Native.Nat.{ℕ, _+_, _-_, _≤_, _<_, _^_, zero-le}
@@ -70,7 +70,7 @@ use Rattle.record.specs.Laws.Text.{Stored, step-text, LinesPut, lines-be
 use Rattle.record.specs.declared.reading.Reader.{Reader}
 use Rattle.record.specs.declared.Step.{Step}
 use Rattle.record.specs.declared.Checked.{Checked}
-use Rattle.record.proofs.Lending.{bytes-at, HeldBytes, WhileLent, lend-bytes, bytes-back}
+use Rattle.record.proofs.Lending.{word, lentRef, lentT, which, bytes-at, HeldBytes, WhileLent, lend-bytes, bytes-back}
 use Rattle.record.proofs.reading.Reader as T
 use Rattle.record.proofs.reading.Reader.Laws as T′
 use Rattle.record.proofs.Step as S
@@ -112,27 +112,14 @@ use Rattle.record.proofs.text.put_text.Code as code
 use Rattle.record.proofs.text.put_text.Code.Mir as body
 
 -- the locals' types
-abbrev word : Ty
-word = tyInt w64
-
 abbrev outT : Ty
 outT = sliceTy (tyRef (named 0) mut (tyInt w8))
 
 abbrev bytesT : Ty
 bytesT = sliceTy (tyRef (named 1) imm (tyInt w8))
 
-abbrev lentRef : Ty
-lentRef = tyRef erased mut (tyInt w8)
-
-abbrev lentT : Ty
-lentT = sliceTy lentRef
-
 abbrev stayed : Stays (put-text.ended .signature .params) (put-text.ended .kept)
 stayed = (stay-slice (0 ∷ []) tt (plain (λ _. u8)), (stay-none-slice (1 ∷ []) tt (plain (λ _. u8)) yes, tt))
-
-which : (t : Bool) → (t ≡ true) ⊎ (t ≡ false)
-which true = inl refl
-which false = inr refl
 
 -- where the loop stands, after k lines of the bytes s, which began at p over the output ys
 record St (s : RefT (List ℕ)) (ys : List ℕ) (p : ℕ) : Type 0 where
