@@ -6,7 +6,7 @@ use mathlib.Core.Option.{Option, some, none}
 use Prim.Native.Nat.{ℕ}
 use lib.ListN.{length, drop}
 use Rattle.distance.specs.Fix.{Fix}
-use Rattle.distance.specs.Place.{Time, From, Until, place, Near}
+use Rattle.distance.specs.Place.{Time, From, Until, place, Proper, Near}
 use Rattle.distance.specs.Box.{Box, In, NearBox, NearSide}
 use Rattle.record.specs.Format.{trail, mark-field, length-field, fixes}
 use Rattle.record.specs.Checks.{IsAccepted, bad-window, bad-box, sentence, asked-of}
@@ -44,6 +44,8 @@ pub record Claim (b : List ℕ) (calls : List Call) : Type 0 where
   -- the buffer after the original's record is as it was
   pub same-size : length (run b calls) ≡ length b
   pub rest : drop (length-field b) (run b calls) ≡ drop (length-field b) b
+  -- the places below have denominators of at least 1: every comparison is multiplied out by them, and with 0 it would hold of any two places
+  pub denominators : (u : Time) → Proper (place ((book b calls) .original) u) × Proper (place (fixes trail (run b calls)) u)
   -- at every fractional time from first to last the two places are at most E apart
   pub near : (u : Time) → AskedOf ((book b calls) .original) u → Near (worth-of b calls) (place ((book b calls) .original) u) (place (fixes trail (run b calls)) u)
   -- a crossing told or denied is true of the original within E

@@ -126,6 +126,7 @@ claim b calls bytes a never-thinned =
       marked = s .marked;
       same-size = s .same-size;
       rest = s .rest;
+      denominators = λ u. (rw o (place-proper u rises), rw (s .exactly) (place-proper u (kept-rises ((book b calls) .E) (fixes trail b) rises)));
       near = λ u t. rw (o, s .exactly) (kept-near ((book b calls) .E) (fixes trail b) u rises (rw o at t));
       crossings = λ t e box. rw o (crossing-says ((book b calls) .E) (fixes trail b) (run b calls) rises (s .still-accepted) (s .exactly) t e box);
     }
