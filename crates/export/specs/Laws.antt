@@ -11,11 +11,11 @@ use lib.ListN.{length}
 use borrow.Author.Tests.{ltb-true, ltb-false}
 use Rattle.distance.specs.Fix.{Fix}
 use Rattle.record.specs.Format.{trail, count-field, mark-field}
-use Rattle.record.specs.Checks.{Check, few-bytes, other-kind, bad-count, bad-length, short-record, bad-mark, misplaced, unordered, long-span, high-tolerance, bad-thousandths, bad-moment, bad-window, bad-box, short-output, number, first, read-refusal}
+use Rattle.record.specs.Checks.{Check, few-bytes, other-kind, bad-count, bad-length, short-record, bad-mark, misplaced, unordered, long-span, high-tolerance, bad-thousandths, bad-moment, bad-window, bad-box, short-output, number, first, FirstHolds, this, not-before, read-refusal}
 use Rattle.record.specs.Reading.{of-head}
 use Rattle.record.specs.Answers.{answer as told}
 use Rattle.record.specs.Writing.{write-refusal, write-answer}
-use Rattle.record.specs.Laws.First.{some-none, stops, FirstHolds, this, not-before, first-exactly}
+use Rattle.record.specs.Laws.First.{some-none, stops, first-exactly}
 use Rattle.record.specs.Laws.Head.{says, few}
 use Rattle.record.specs.Laws.Reading.{of-head-field}
 use Rattle.distance.specs.Box.{Box}

@@ -9,9 +9,8 @@ use Rattle.distance.specs.Fix.{Fix}
 use Rattle.distance.specs.Place.{Time, From, Until, place, Proper, Near}
 use Rattle.distance.specs.Box.{Box, In, NearBox, NearSide}
 use Rattle.record.specs.Format.{trail, mark-field, length-field, fixes}
-use Rattle.record.specs.Checks.{IsAccepted, bad-window, bad-box, sentence, asked-of}
+use Rattle.record.specs.Checks.{IsAccepted, bad-window, bad-box, sentence, FirstHolds, asked-of}
 use Rattle.record.specs.Answers.{Answer, gives, turns-away}
-use Rattle.record.specs.Laws.First.{FirstHolds}
 use Rattle.thinning.specs.Aging.{Call}
 use Rattle.questions.specs.declared.Fraction.{Fraction}
 use Rattle.questions.specs.Crossing.{Told, Denied, after-first, asked-crossing, cross-answer}
