@@ -14,7 +14,7 @@ use Rattle.record.specs.Answers.{Answer, gives, turns-away}
 use Rattle.thinning.specs.Aging.{Call}
 use Rattle.questions.specs.declared.Fraction.{Fraction}
 use Rattle.questions.specs.Crossing.{Told, Denied, after-first, asked-crossing, cross-answer}
-use Rattle.questions.specs.Agings.{Book, opened, fed-all, run, kept-at, mark-of, worth, AskedOf}
+use Rattle.questions.specs.Agings.{Book, new-book, fed-all, run, kept-at, mark-of, worth, AskedOf}
 
 -- What the crossing's answer on the aged record c says of the original, for one window from s to e and one box.
 pub data CrossingSays (E : ℕ) (original : List Fix) (c : List ℕ) (s e : ℕ) (box : Box) : Answer (Option Fraction) → Type 0 where
@@ -28,7 +28,7 @@ pub data CrossingSays (E : ℕ) (original : List Fix) (c : List ℕ) (s e : ℕ)
 
 -- The book after the list, and the buffer.
 abbrev pub book : List ℕ → List Call → Book
-book b calls = fed-all (opened (fixes trail b)) calls
+book b calls = fed-all (new-book (fixes trail b)) calls
 
 abbrev pub worth-of : List ℕ → List Call → ℕ
 worth-of b calls = worth ((book b calls) .E)
