@@ -43,7 +43,7 @@ pub record Claim (b : List ℕ) (calls : List Call) : Type 0 where
   -- the buffer after the original's record is as it was
   pub same-size : length (run b calls) ≡ length b
   pub rest : drop (length-field b) (run b calls) ≡ drop (length-field b) b
-  -- the places below have denominators of at least 1: every comparison is multiplied out by them, and with 0 it would hold of any two places
+  -- the places below have denominators of at least 1: comparisons are multiplied out by them, and of any two places over 0 `Near` would hold
   pub denominators : (u : Time) → Proper (place ((book b calls) .original) u) × Proper (place (fixes trail (run b calls)) u)
   -- at every fractional time from first to last the two places are at most E apart
   pub near : (u : Time) → AskedOf ((book b calls) .original) u → Near (worth-of b calls) (place ((book b calls) .original) u) (place (fixes trail (run b calls)) u)
