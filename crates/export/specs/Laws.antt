@@ -11,15 +11,16 @@ use lib.ListN.{length}
 use borrow.Author.Tests.{ltb-true, ltb-false}
 use Rattle.distance.specs.Fix.{Fix}
 use Rattle.record.specs.Format.{trail, count-field, mark-field}
-use Rattle.record.specs.Checks.{Check, few-bytes, other-kind, bad-count, bad-length, short-record, bad-mark, misplaced, unordered, long-span, high-tolerance, bad-thousandths, bad-moment, bad-window, bad-box, short-output, number, first, read-refusal}
+use Rattle.record.specs.Checks.{Check, few-bytes, other-kind, bad-count, bad-length, short-record, bad-mark, misplaced, unordered, long-span, high-tolerance, bad-thousandths, bad-moment, bad-window, bad-box, short-output, number, first, FirstHolds, this, not-before, asked-of, refusal, placing, crossing as crosses, read-refusal}
 use Rattle.record.specs.Reading.{of-head}
-use Rattle.record.specs.Answers.{answer as told}
+use Rattle.record.specs.Answers.{Answer, turns-away, answer as told}
 use Rattle.record.specs.Writing.{write-refusal, write-answer}
-use Rattle.record.specs.Laws.First.{some-none, stops, FirstHolds, this, not-before, first-exactly}
+use Rattle.record.specs.Laws.First.{some-none, stops, first-exactly}
 use Rattle.record.specs.Laws.Head.{says, few}
 use Rattle.record.specs.Laws.Reading.{of-head-field}
 use Rattle.distance.specs.Box.{Box}
-use Rattle.questions.specs.Crossing.{cross-answer}
+use Rattle.questions.specs.Moment.{asked-moment, place-answer}
+use Rattle.questions.specs.Crossing.{asked-crossing, cross-answer}
 use Rattle.questions.specs.declared.Spot.{Spot}
 use Rattle.questions.specs.declared.Placed.{Placed}
 use Rattle.questions.specs.declared.Placed.the-variants as Place
@@ -28,7 +29,7 @@ use Rattle.thinning.specs.Aging.{age-refusal, age-answer, days-refusal, days-an
 use Rattle.export.specs.declared.Head.{Head}
 use Rattle.export.specs.declared.Step.{Step}
 use Rattle.export.specs.declared.Spot.{Spot as Numbers}
-use Rattle.export.specs.Interface.{checked, head, step, answer, spot, box}
+use Rattle.export.specs.Interface.{checked, head, step, answer, spot, crossing, box}
 
 -- ---- 0 is none
 counted : (c : Check) → 1 ≤ number c
@@ -64,23 +65,30 @@ head-none b h = go (read-refusal trail b) refl h
     go (some k) e z = let p = first-counted _ _ k e in absurd (omega arith)
 
 -- .. and of an answer that the operation made none of its refusals: ..
-answer-none : (says : Check → Bool) (l : List Check) (n : ℕ) → answer (told (first says l) n) .refusal ≡ 0 → first says l ≡ none
-answer-none says l n h = go (first says l) refl h
+answer-none : {A : Type 0} (f : Answer A → ℕ) → ((k : ℕ) → f (turns-away k) ≡ k) → (says : Check → Bool) (l : List Check) (a : A) → f (told (first says l) a) ≡ 0 → first says l ≡ none
+answer-none f is says l a h = go (first says l) refl h
   where
-    go : (o : Option ℕ) → first says l ≡ o → answer (told o n) .refusal ≡ 0 → first says l ≡ none
+    go : (o : Option ℕ) → first says l ≡ o → f (told o a) ≡ 0 → first says l ≡ none
     go none e z = e
-    go (some k) e z = let p = first-counted says l k e in absurd (omega arith)
+    go (some k) e z = let p = first-counted says l k e in absurd (omega (arith, is k))
 
 -- .. the fixes are written, ..
 pub written-none : (l : List Fix) (out : List ℕ) → answer (write-answer trail l out) .refusal ≡ 0 → write-refusal trail l out ≡ none
-written-none l out h = answer-none _ _ _ h
+written-none l out h = answer-none (λ a. answer a .refusal) (λ k. refl) _ _ _ h
 
--- .. the record is aged, by tolerance or by days.
+-- .. the record is aged, by tolerance or by days, ..
 pub aged-none : (b : List ℕ) (e : ℕ) → answer (age-answer b e) .refusal ≡ 0 → age-refusal b e ≡ none
-aged-none b e h = answer-none _ _ _ h
+aged-none b e h = answer-none (λ a. answer a .refusal) (λ k. refl) _ _ _ h
 
 pub days-none : (b : List ℕ) (days : ℕ) → answer (days-answer b days) .refusal ≡ 0 → days-refusal b ≡ none
-days-none b days h = answer-none _ _ _ h
+days-none b days h = answer-none (λ a. answer a .refusal) (λ k. refl) _ _ _ h
+
+-- .. the place is given, and the crossing is told or denied.
+pub place-none : (b : List ℕ) (s m : ℕ) → spot (place-answer trail b s m) .refusal ≡ 0 → refusal trail placing (asked-of trail b (asked-moment s m)) ≡ none
+place-none b s m h = answer-none (λ a. spot a .refusal) (λ k. refl) _ _ _ h
+
+pub crossing-none : (b : List ℕ) (s e : ℕ) (x : Box) → crossing (cross-answer trail b s e x) .refusal ≡ 0 → refusal trail crosses (asked-of trail b (asked-crossing s e x)) ≡ none
+crossing-none b s e x h = answer-none (λ a. crossing a .refusal) (λ k. refl) _ _ _ h
 
 -- ---- the reading function
 pub step-found : (f : Fix) (x y : ℤ) (o : Option Fix) → x ≡ f .x → y ≡ f .y → some f ≡ o → _≡_ {A = Step} (record { found = 1; t = f .t; x = x; y = y }) (step o)

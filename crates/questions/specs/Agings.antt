@@ -22,8 +22,8 @@ pub record Book : Type 0 where
   pub original : List Fix
   pub E : Option ℕ
 
-unfoldable pub opened : List Fix → Book
-opened l = record { original = l; E = none }
+unfoldable pub new-book : List Fix → Book
+new-book l = record { original = l; E = none }
 
 -- "makes E the greater of E and e, or e if E was none"; a call that applies no tolerance leaves E.
 unfoldable pub greater : Option ℕ → Option ℕ → Option ℕ
@@ -58,8 +58,8 @@ abbrev pub AskedOf : List Fix → Time → Type 0
 AskedOf [] u = ⊥
 AskedOf (a ∷ l) u = From (a .t) u × Until ((last-fix a l) .t) u
 
--- ---- a list of calls as numbers: below 65,536 a tolerance, from there on 65,536 and days. Every number is a call, and every call of 16 bits has a
--- number (`number-of` of Laws/Agings.antt).
+-- ---- a list of calls as numbers: below 65,536 a tolerance, from there on 65,536 and days. Every number is a call, and every list of calls of 16
+-- bits is one of numbers (`numbers-of` of Laws/Agings.antt).
 unfoldable pub call-of : ℕ → Call
 call-of n = cond (ltb n 65536) (by-tolerance n) (by-days (n % 65536))
 

@@ -6,16 +6,15 @@ use mathlib.Core.Option.{Option, some, none}
 use Prim.Native.Nat.{ℕ}
 use lib.ListN.{length, drop}
 use Rattle.distance.specs.Fix.{Fix}
-use Rattle.distance.specs.Place.{Time, From, Until, place, Near}
+use Rattle.distance.specs.Place.{Time, From, Until, place, Proper, Near}
 use Rattle.distance.specs.Box.{Box, In, NearBox, NearSide}
 use Rattle.record.specs.Format.{trail, mark-field, length-field, fixes}
-use Rattle.record.specs.Checks.{IsAccepted, bad-window, bad-box, sentence, asked-of}
+use Rattle.record.specs.Checks.{IsAccepted, bad-window, bad-box, sentence, FirstHolds, asked-of}
 use Rattle.record.specs.Answers.{Answer, gives, turns-away}
-use Rattle.record.specs.Laws.First.{FirstHolds}
 use Rattle.thinning.specs.Aging.{Call}
 use Rattle.questions.specs.declared.Fraction.{Fraction}
 use Rattle.questions.specs.Crossing.{Told, Denied, after-first, asked-crossing, cross-answer}
-use Rattle.questions.specs.Agings.{Book, opened, fed-all, run, kept-at, mark-of, worth, AskedOf}
+use Rattle.questions.specs.Agings.{Book, new-book, fed-all, run, kept-at, mark-of, worth, AskedOf}
 
 -- What the crossing's answer on the aged record c says of the original, for one window from s to e and one box.
 pub data CrossingSays (E : ℕ) (original : List Fix) (c : List ℕ) (s e : ℕ) (box : Box) : Answer (Option Fraction) → Type 0 where
@@ -29,7 +28,7 @@ pub data CrossingSays (E : ℕ) (original : List Fix) (c : List ℕ) (s e : ℕ)
 
 -- The book after the list, and the buffer.
 abbrev pub book : List ℕ → List Call → Book
-book b calls = fed-all (opened (fixes trail b)) calls
+book b calls = fed-all (new-book (fixes trail b)) calls
 
 abbrev pub worth-of : List ℕ → List Call → ℕ
 worth-of b calls = worth ((book b calls) .E)
@@ -44,6 +43,8 @@ pub record Claim (b : List ℕ) (calls : List Call) : Type 0 where
   -- the buffer after the original's record is as it was
   pub same-size : length (run b calls) ≡ length b
   pub rest : drop (length-field b) (run b calls) ≡ drop (length-field b) b
+  -- the places below have denominators of at least 1: comparisons are multiplied out by them, and of any two places over 0 `Near` would hold
+  pub denominators : (u : Time) → Proper (place ((book b calls) .original) u) × Proper (place (fixes trail (run b calls)) u)
   -- at every fractional time from first to last the two places are at most E apart
   pub near : (u : Time) → AskedOf ((book b calls) .original) u → Near (worth-of b calls) (place ((book b calls) .original) u) (place (fixes trail (run b calls)) u)
   -- a crossing told or denied is true of the original within E

@@ -39,12 +39,12 @@ pub record Told (l : List Fix) (box : Box) (s e n d : ℕ) : Type 0 where
 abbrev pub Denied : List Fix → Box → (s e : ℕ) → Type 0
 Denied l box s e = (u : Time) → Crosses l box s e u → ⊥
 
--- ---- THE ANSWER: the form of the fraction is the one that `first-crossing` of Legs.antt computes.
--- That it means Told or Denied: `crossing-means` of Laws/Crossing.antt.
+-- What yes with a time means, and what no means. (`crossing-means` of Laws/Crossing.antt: what `first-crossing` of Legs.antt computes means it.)
 abbrev pub Means : List Fix → Box → (s e : ℕ) → Option Fraction → Type 0
 Means l box s e (some f) = Told l box s e (f .num) (f .den)
 Means l box s e none = Denied l box s e
 
+-- ---- THE ANSWER: the form of the fraction is the one that `first-crossing` computes.
 abbrev pub asked-crossing : (s e : ℕ) → Box → Given
 asked-crossing s e box = record {
   tolerance = nothing .tolerance;

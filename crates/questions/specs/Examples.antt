@@ -1,5 +1,5 @@
 -- The claim on one buffer: the trail of document 01's rows h to j, never thinned, with two bytes after it. No hypothesis of the claim is empty, and
--- each list leaves what the table says.
+-- each list leaves what the table says; of the trail of row b too.
 use mathlib.Core.Path.{_≡_, refl}
 use mathlib.Core.List.{List, [], _∷_}
 use mathlib.Core.Bool.{Bool, true, false, cond}
@@ -49,6 +49,23 @@ left-at-25 = two-fixes (20 ∷ 0 ∷ 0 ∷ 0 ∷ 20 ∷ 0 ∷ 0 ∷ 0 ∷ old-re
 abbrev pub left-at-12-and-25 : List ℕ
 left-at-12-and-25 = two-fixes (30 ∷ 0 ∷ 0 ∷ 0 ∷ 0 ∷ 0 ∷ 0 ∷ 0 ∷ old-rest)
 
+-- the trail of row b, a straight line of three fixes, and the same after thinning at 0: the bytes from the new length on are as they were
+abbrev pub straight : List ℕ
+straight =
+    34 ∷ 0 ∷ 0 ∷ 0 ∷ 1 ∷ 0 ∷ 255 ∷ 255 ∷ 3 ∷ 0
+    ∷ 0 ∷ 0 ∷ 0 ∷ 0 ∷ 0 ∷ 0 ∷ 0 ∷ 0
+    ∷ 10 ∷ 0 ∷ 0 ∷ 0 ∷ 100 ∷ 0 ∷ 0 ∷ 0
+    ∷ 20 ∷ 0 ∷ 0 ∷ 0 ∷ 200 ∷ 0 ∷ 0 ∷ 0
+    ∷ []
+
+abbrev pub straight-at-0 : List ℕ
+straight-at-0 =
+    26 ∷ 0 ∷ 0 ∷ 0 ∷ 1 ∷ 0 ∷ 0 ∷ 0 ∷ 2 ∷ 0
+    ∷ 0 ∷ 0 ∷ 0 ∷ 0 ∷ 0 ∷ 0 ∷ 0 ∷ 0
+    ∷ 20 ∷ 0 ∷ 0 ∷ 0 ∷ 200 ∷ 0 ∷ 0 ∷ 0
+    ∷ 20 ∷ 0 ∷ 0 ∷ 0 ∷ 200 ∷ 0 ∷ 0 ∷ 0
+    ∷ []
+
 -- ---- what the claim asks
 pub lent-accepted : IsAccepted trail lent
 unfolding first sentence some-outside some-early-after some-early last-fix of-ends fix-at each number-at signed
@@ -75,35 +92,40 @@ pub lent-never : mark-field lent ≡ never
 unfolding number-at
 lent-never = refl
 
--- ---- the claim holds of every list of calls on it; each of these leaves the bytes beside it
+-- ---- the claim holds of every list of calls on it
 pub on-lent : (calls : List Call) → Claim lent calls
 on-lent calls = claim lent calls lent-bytes lent-accepted lent-never
 
-pub record Left : Type 0 where
+-- A buffer, the calls on it, and the bytes that they leave.
+pub record Example : Type 0 where
+  pub buffer : List ℕ
   pub calls : List Call
   pub bytes : List ℕ
 
-abbrev pub rows : List Left
-rows =
-    record { calls = []; bytes = lent }
+abbrev pub cases : List Example
+cases =
+    record { buffer = lent; calls = []; bytes = lent }
     -- refused: 32,001 is above 32,000
-    ∷ record { calls = by-tolerance 32001 ∷ []; bytes = lent }
-    ∷ record { calls = by-tolerance 25 ∷ by-tolerance 12 ∷ []; bytes = left-at-25 }
-    ∷ record { calls = by-tolerance 12 ∷ by-tolerance 25 ∷ []; bytes = left-at-12-and-25 }
+    ∷ record { buffer = lent; calls = by-tolerance 32001 ∷ []; bytes = lent }
+    ∷ record { buffer = lent; calls = by-tolerance 25 ∷ by-tolerance 12 ∷ []; bytes = left-at-25 }
+    ∷ record { buffer = lent; calls = by-tolerance 12 ∷ by-tolerance 25 ∷ []; bytes = left-at-12-and-25 }
     -- days 0 and 1 leave the record, day 7 thins at 25
-    ∷ record { calls = by-days 1 ∷ []; bytes = lent }
-    ∷ record { calls = by-days 7 ∷ by-tolerance 65535 ∷ by-days 2 ∷ []; bytes = left-at-25 }
+    ∷ record { buffer = lent; calls = by-days 1 ∷ []; bytes = lent }
+    ∷ record { buffer = lent; calls = by-days 7 ∷ by-tolerance 65535 ∷ by-days 2 ∷ []; bytes = left-at-25 }
+    -- E 0 is not E none, though both count as 0 for the bound: the fix in the middle of a straight line goes, and the mark is 0
+    ∷ record { buffer = straight; calls = by-days 1 ∷ []; bytes = straight }
+    ∷ record { buffer = straight; calls = by-tolerance 0 ∷ []; bytes = straight-at-0 }
     ∷ []
 
-abbrev pub computed : List Left → List (List ℕ)
+abbrev pub computed : List Example → List (List ℕ)
 computed [] = []
-computed (r ∷ l) = run lent (r .calls) ∷ computed l
+computed (r ∷ l) = run (r .buffer) (r .calls) ∷ computed l
 
-abbrev pub told : List Left → List (List ℕ)
-told [] = []
-told (r ∷ l) = r .bytes ∷ told l
+abbrev pub expected : List Example → List (List ℕ)
+expected [] = []
+expected (r ∷ l) = r .bytes ∷ expected l
 
-pub examples : computed rows ≡ told rows
+pub examples : computed cases ≡ expected cases
 unfolding run thinned-record new-mark last-row thinning thin thin-span furthest sooner every but-last last deviation allowance first sentence some-outside some-early-after some-early last-fix of-ends fix-at each number-at signed unsigned bytes-of fix-bytes all-bytes header-bytes record-bytes
 examples = refl
 

@@ -1,5 +1,6 @@
 -- TRAILS WORKED BY HAND. Document 01: "Fixes as (t, x, y), positions from 0. All twelve are to be shown of the definitions by one shared statement over
--- a list of them". The list is `rows`, the line below the table is `beside`, the statement is `Holds` of each row, and `worked` proves it.
+-- a list of them". The list is `rows`, the line below the table is `rows-below`, the statement is `Holds` of each row, and `worked` and
+-- `worked-below` prove it.
 -- Every row speaks of a record's bytes and of the definitions that the contracts of the calls cite.
 use mathlib.Core.Path.{_≡_, refl}
 use mathlib.Core.List.{List, [], _∷_, _++_}
@@ -55,8 +56,8 @@ Reply read = Unit
 abbrev pub output : List Fix → List ℕ
 output l = each (λ k. 0) 0 (record-length trail (length l))
 
-abbrev pub lent : List Fix → List ℕ
-lent l = written trail l (output l)
+abbrev pub recorded : List Fix → List ℕ
+recorded l = written trail l (output l)
 
 -- Each aging gets the buffer as the one before it left it; the first that is turned away is the answer.
 abbrev pub unless-refused : Answer ℕ → (ℕ → Answer Left) → Answer Left
@@ -69,9 +70,9 @@ aged-all b count (e ∷ es) = unless-refused (answered b (by-tolerance e)) (λ c
 
 -- The reader is asked of the same bytes put down without the writer's checks, since some of these trails the writer turns away.
 abbrev pub reply : List Fix → (q : Question) → Answer (Reply q)
-reply l (age-at es) = aged-all (lent l) 0 es
-reply l (place-at s m) = place-answer trail (lent l) s m
-reply l (cross box s e) = cross-answer trail (lent l) s e box
+reply l (age-at es) = aged-all (recorded l) 0 es
+reply l (place-at s m) = place-answer trail (recorded l) s m
+reply l (cross box s e) = cross-answer trail (recorded l) s e box
 reply l write = answer (write-refusal trail l (output l)) tt
 reply l read = answer (read-refusal trail (record-bytes trail never l)) tt
 
@@ -213,8 +214,8 @@ rows =
     ∷ []
 
 -- ---- THE LINE BELOW IT
-abbrev pub beside : List Row
-beside =
+abbrev pub rows-below : List Row
+rows-below =
     -- "Trail l with window 4..10: yes, 4; with 5..10: no."
     row trail-l (cross box-l 4 10) (yes-at 4 1)
     ∷ row trail-l (cross box-l 5 10) denied
@@ -255,9 +256,9 @@ worked =
     and record { same-value = refl; at-least = omega arith; at-most = omega arith }
     and tt
 
-pub worked-beside : AllHold beside
+pub worked-below : AllHold rows-below
 unfolding thinned-record new-mark thinning thin thin-span furthest sooner every but-last last deviation allowance first sentence some-outside some-early-after some-early last-fix of-ends fix-at each number-at signed unsigned bytes-of fix-bytes all-bytes header-bytes record-bytes at-moment moment-from on-leg own rounded floored first-crossing first-from leg-first leg-times axis-times first-of later-of earlier-of
-worked-beside =
+worked-below =
     record { same-value = refl; at-least = omega arith; at-most = omega arith }
     and tt
     and (refl, tt, tt)

@@ -2,6 +2,7 @@
 use crate::Crossed;
 use crate::Edge;
 use crate::Edges;
+use crate::Extent;
 use crate::Found;
 use crate::Fraction;
 use crate::Frame;
@@ -91,25 +92,25 @@ fn times(n: u32, m: u32, d: u16) -> Times
 // ---- one axis of a leg
 
 // a − b, or 0
-fn excess(a: Offset, b: Offset) -> u16
-    ensures { λ r. ⌜ r ≡ a .0 - b .0 ⌝ }
+fn excess(a: Offset, b: Offset) -> Extent
+    ensures { λ r. ⌜ r .0 ≡ a .0 - b .0 ⌝ }
 {
-    if b.0 < a.0 { a.0 - b.0 } else { 0 }
+    Extent(if b.0 < a.0 { a.0 - b.0 } else { 0 })
 }
 
 // The time at which n of the v centimetres are gone, times v.
-fn gone(start: Duration, takes: Duration, v: u16, n: u16) -> u32
+fn gone(start: Duration, takes: Duration, v: Extent, n: Extent) -> u32
     requires { ⌜ Clock (start .0) (takes .0) ⌝ }
-    ensures { λ r. ⌜ r ≡ start .0 * v + takes .0 * n ⌝ }
+    ensures { λ r. ⌜ r ≡ start .0 * v .0 + takes .0 * n .0 ⌝ }
 {
-    (start.0 as u32) * (v as u32) + (takes.0 as u32) * (n as u32)
+    (start.0 as u32) * (v.0 as u32) + (takes.0 as u32) * (n.0 as u32)
 }
 
-fn moving(start: Duration, takes: Duration, v: u16, n: u16, m: u16) -> Times
+fn moving(start: Duration, takes: Duration, v: Extent, n: Extent, m: Extent) -> Times
     requires { ⌜ Clock (start .0) (takes .0) ⌝ }
-    ensures { λ r. ⌜ r ≡ moving (start .0) (takes .0) v n m ⌝ }
+    ensures { λ r. ⌜ r ≡ moving (start .0) (takes .0) (v .0) (n .0) (m .0) ⌝ }
 {
-    times(gone(start, takes, v, n), gone(start, takes, v, m), v)
+    times(gone(start, takes, v, n), gone(start, takes, v, m), v.0)
 }
 
 // The whole leg.
@@ -129,13 +130,13 @@ fn axis(start: Duration, takes: Duration, a: Offset, b: Offset, low: Offset, hig
         if high.0 < a.0 {
             return times(1, 0, 1);
         }
-        return moving(start, takes, b.0 - a.0, excess(low, a), excess(high, a));
+        return moving(start, takes, excess(b, a), excess(low, a), excess(high, a));
     }
     if a.0 < low.0 {
         return times(1, 0, 1);
     }
     if b.0 < a.0 {
-        return moving(start, takes, a.0 - b.0, excess(a, high), excess(a, low));
+        return moving(start, takes, excess(a, b), excess(a, high), excess(a, low));
     }
     if high.0 < a.0 {
         return times(1, 0, 1);

@@ -64,6 +64,9 @@ pub enum Crossed {
 // Centimetres above the lowest place, −16,000.
 pub struct Offset(pub u16);
 
+// How far it is from one place of an axis to another, in centimetres: a length, where an offset is a place and a tolerance is asked for.
+pub struct Extent(pub u16);
+
 // A fix in seconds after the first one, no number of it negative.
 pub struct Raised {
     pub t: Duration,

@@ -1,7 +1,7 @@
 -- WHAT IS TURNED AWAY, IN CHECKING ORDER. Document 01: "A refusal is its number and nothing more [..]; it is given if its sentence holds and no
 -- earlier check of that operation fails, and never otherwise." (`first-exactly` of Laws/First.antt.)
 use mathlib.Core.Path.{_≡_}
-use mathlib.Core.Bool.{Bool, false, cond, not, _||_, _&&_}
+use mathlib.Core.Bool.{Bool, true, false, cond, not, _||_, _&&_}
 use mathlib.Core.List.{List, [], _∷_}
 use mathlib.Core.Option.{Option, some, none}
 use Prim.Native.Nat.{ℕ, _+_, _*_}
@@ -207,6 +207,11 @@ checks o = selected (makes o) order
 unfoldable pub first : (Check → Bool) → List Check → Option ℕ
 first says [] = none
 first says (c ∷ l) = cond (says c) (some (number c)) (first says l)
+
+-- Said of a number k: the sentence of its check holds and no earlier one does. (`first-exactly` of Laws/First.antt: `first` gives k exactly then.)
+pub data FirstHolds (says : Check → Bool) (k : ℕ) : List Check → Type 0 where
+  this : {c : Check} {l : List Check} → says c ≡ true → number c ≡ k → FirstHolds says k (c ∷ l)
+  not-before : {c : Check} {l : List Check} → says c ≡ false → FirstHolds says k l → FirstHolds says k (c ∷ l)
 
 -- THE REFUSAL of an operation: none, or its number.
 abbrev pub refusal : Kind → Operation → Asked → Option ℕ

@@ -97,7 +97,8 @@ abbrev pub answered : List ℕ → Call → Answer ℕ
 answered b (by-tolerance e) = age-answer b e
 answered b (by-days days) = days-answer b days
 
--- The tolerance that a call applies to an accepted record: none if check 10 turns it away, or if its days give none.
+-- The tolerance that a call applies to an accepted record: none if check 10 turns it away, or if its days give none (`turned-away` of Laws/Step.antt
+-- and the laws below it).
 unfoldable pub applies : Call → Option ℕ
 applies (by-tolerance e) = cond (leb e (trail .top)) (some e) none
 applies (by-days days) = days-give days

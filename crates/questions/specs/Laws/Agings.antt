@@ -26,7 +26,7 @@ use Rattle.thinning.specs.Aging.{Call, by-tolerance, by-days, left-by, applies,
 use Rattle.thinning.specs.Laws.Trail.{again, no-more}
 use Rattle.thinning.specs.Laws.Near.{thinned-near}
 use Rattle.thinning.specs.Laws.Step.{thins, step, applies-low}
-use Rattle.questions.specs.Agings.{run, Book, opened, greater, fed, fed-all, kept-at, mark-of, worth, AskedOf, call-of, calls-of}
+use Rattle.questions.specs.Agings.{run, Book, new-book, greater, fed, fed-all, kept-at, mark-of, worth, AskedOf, call-of, calls-of}
 
 -- ---- what the buffer is after some of the calls: b is the original's buffer, c the present one
 pub record State (b c : List ℕ) (E : Option ℕ) : Type 0 where
@@ -113,9 +113,9 @@ begins : (b : List ℕ) → AreBytes b → IsAccepted trail b → mark-field b �
 unfolding kept-at mark-of
 begins b bytes a m = record { still-accepted = a; still-bytes = bytes; exactly = refl; marked = m; same-size = refl; rest = refl; low = λ e z. absurd (some-none (sym z)) }
 
-pub agings : (b : List ℕ) (calls : List Call) → AreBytes b → IsAccepted trail b → mark-field b ≡ never → State b (run b calls) ((fed-all (opened (fixes trail b)) calls) .E)
-unfolding opened
-agings b calls bytes a m = all-calls b b (opened (fixes trail b)) calls a (begins b bytes a m)
+pub agings : (b : List ℕ) (calls : List Call) → AreBytes b → IsAccepted trail b → mark-field b ≡ never → State b (run b calls) ((fed-all (new-book (fixes trail b)) calls) .E)
+unfolding new-book
+agings b calls bytes a m = all-calls b b (new-book (fixes trail b)) calls a (begins b bytes a m)
 
 -- ---- at every fractional time of the trail
 pub kept-near : (E : Option ℕ) (l : List Fix) (u : Time) → Rising l → AskedOf l u → Near (worth E) (place l u) (place (kept-at E l) u)
@@ -184,6 +184,15 @@ pub data SixteenBits : Call → Type 0 where
 pub number-of : {c : Call} → SixteenBits c → (n : ℕ) × (n < 131072) × (call-of n ≡ c)
 number-of (tolerance-16 {e} h) = (e, omega arith, is-tolerance e h)
 number-of (days-16 {d} h) = let m : (65536 + d) % 65536 ≡ d = omega arith in (65536 + d, omega arith, is-days (65536 + d) (omega arith) ∙ ap by-days m)
+
+-- and of a whole list
+pub numbers-of : {calls : List Call} → All SixteenBits calls → (l : List ℕ) × All (λ (n : ℕ). n < 131072) l × (calls-of l ≡ calls)
+unfolding calls-of
+numbers-of all-none = ([], all-none, refl)
+numbers-of (all-more h hs) =
+    let one = number-of h in
+    let rest = numbers-of hs in
+    (one .0 ∷ rest .0, all-more (one .1) (rest .1), rw (one .2, rest .2) refl)
 
 -- one call more, at the end
 calls-more : (l : List ℕ) (n : ℕ) → calls-of (l ++ n ∷ []) ≡ calls-of l ++ call-of n ∷ []

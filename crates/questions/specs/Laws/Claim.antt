@@ -25,7 +25,7 @@ use Rattle.thinning.specs.Laws.Trail.{SameEnds, no-fixes, same-ends, ends-stay,
 use Rattle.questions.specs.declared.Fraction.{Fraction}
 use Rattle.questions.specs.Crossing.{Told, Denied, Means, after-first, asked-crossing, cross-answer}
 use Rattle.questions.specs.Legs.{first-crossing}
-use Rattle.questions.specs.Agings.{opened, run, kept-at, worth, AskedOf}
+use Rattle.questions.specs.Agings.{new-book, run, kept-at, worth, AskedOf}
 use Rattle.questions.specs.Claim.{CrossingSays, says-refused, says-told, says-denied, book, Claim}
 use Rattle.questions.specs.Laws.Agings.{agings, kept-near, original-stays}
 use Rattle.questions.specs.Laws.Crossing.{GoodWindow}
@@ -114,10 +114,10 @@ module _ (E : Option ℕ) (l : List Fix) (c : List ℕ) (rises : Rising l) (a : 
 
 -- ---- DEMAND 3
 pub claim : (b : List ℕ) (calls : List Call) → AreBytes b → IsAccepted trail b → mark-field b ≡ never → Claim b calls
-unfolding opened
+unfolding new-book
 claim b calls bytes a never-thinned =
     let s = agings b calls bytes a never-thinned in
-    let o : (book b calls) .original ≡ fixes trail b = original-stays (opened (fixes trail b)) calls in
+    let o : (book b calls) .original ≡ fixes trail b = original-stays (new-book (fixes trail b)) calls in
     let rises = times-good (fixes trail b) (accepted-good b a .trail-good .ordered) in
     record {
       never-changed = o;
@@ -126,6 +126,7 @@ claim b calls bytes a never-thinned =
       marked = s .marked;
       same-size = s .same-size;
       rest = s .rest;
+      denominators = λ u. (rw o (place-proper u rises), rw (s .exactly) (place-proper u (kept-rises ((book b calls) .E) (fixes trail b) rises)));
       near = λ u t. rw (o, s .exactly) (kept-near ((book b calls) .E) (fixes trail b) u rises (rw o at t));
       crossings = λ t e box. rw o (crossing-says ((book b calls) .E) (fixes trail b) (run b calls) rises (s .still-accepted) (s .exactly) t e box);
     }

@@ -7,7 +7,7 @@ use mathlib.Core.Option.{some, none}
 use Prim.Native.Nat.{ℕ}
 use native.Mathlib.Omega.{arith}
 use Rattle.record.specs.Format.{Kind}
-use Rattle.record.specs.Checks.{Check, Given, Asked, number, first, sentence, asked-of, refusal, reading, writing, aging, aging-by-days, placing, crossing, read-refusal}
+use Rattle.record.specs.Checks.{Check, Given, Asked, number, first, FirstHolds, this, not-before, sentence, asked-of, refusal, reading, writing, aging, aging-by-days, placing, crossing, read-refusal}
 
 pub some-none : {k : ℕ} → some k ≡ none → ⊥
 some-none e = let z : _≡_ {A = ℕ} 0 1 = cc in omega arith
@@ -32,26 +32,22 @@ module _ (says : Check → Bool) where
     and-not : {c : Check} {l : List Check} → says c ≡ false → NoneHolds l → NoneHolds (c ∷ l)
 
   -- EXACTLY: a number is given if the sentence of its check holds and no earlier one does, ..
-  pub data FirstHolds (k : ℕ) : List Check → Type 0 where
-    this : {c : Check} {l : List Check} → says c ≡ true → number c ≡ k → FirstHolds k (c ∷ l)
-    not-before : {c : Check} {l : List Check} → says c ≡ false → FirstHolds k l → FirstHolds k (c ∷ l)
-
-  holds-first : {k : ℕ} {l : List Check} → FirstHolds k l → first says l ≡ some k
+  holds-first : {k : ℕ} {l : List Check} → FirstHolds says k l → first says l ≡ some k
   unfolding first
   holds-first (this h e) = rw (h, e) refl
   holds-first (not-before h r) = rw h (holds-first r)
 
   -- .. and never otherwise.
-  first-holds : (k : ℕ) (l : List Check) → first says l ≡ some k → FirstHolds k l
+  first-holds : (k : ℕ) (l : List Check) → first says l ≡ some k → FirstHolds says k l
   unfolding first
   first-holds k [] e = absurd (some-none (sym e))
   first-holds k (c ∷ l) e = go (says c) refl e (first-holds k l)
     where
-      go : (b : Bool) → says c ≡ b → cond b (some (number c)) (first says l) ≡ some k → (first says l ≡ some k → FirstHolds k l) → FirstHolds k (c ∷ l)
+      go : (b : Bool) → says c ≡ b → cond b (some (number c)) (first says l) ≡ some k → (first says l ≡ some k → FirstHolds says k l) → FirstHolds says k (c ∷ l)
       go true h e r = this h (let z : number c ≡ k = cc in z)
       go false h e r = not-before h (r e)
 
-  pub first-exactly : (k : ℕ) (l : List Check) → first says l ≡ some k ↔ FirstHolds k l
+  pub first-exactly : (k : ℕ) (l : List Check) → first says l ≡ some k ↔ FirstHolds says k l
   first-exactly k l = (first-holds k l, holds-first)
 
   -- checks in two parts: the second is reached if the first turns nothing away

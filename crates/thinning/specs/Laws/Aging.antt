@@ -1,4 +1,4 @@
--- Aging: what the marks, the packing and the head make of a record, the checks in order, and the one step of every call.
+-- Aging: what the marks, the packing and the head make of a record, the checks in order, and the table's rows. The step of every call: Step.antt.
 use mathlib.Core.Path.{_≡_, refl, sym, _∙_, ap}
 use mathlib.Core.Bool.{Bool, true}
 use mathlib.Core.List.{List, [], _∷_}

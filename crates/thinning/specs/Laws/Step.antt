@@ -1,6 +1,7 @@
 -- ONE STEP: a call refuses and leaves the bytes, or it thins at the tolerance that it applies; by days is by tolerance at the table's. And what a
 -- thinning leaves is an accepted record again, of the kept fixes, with the mark moved and the rest of the buffer as before.
-use mathlib.Core.Path.{_≡_, refl, sym, _∙_}
+use mathlib.Core.Path.{_≡_, refl, sym, _∙_, ap}
+use mathlib.Core.Logic.{_↔_}
 use mathlib.Core.Bool.{Bool, true, false, cond}
 use mathlib.Core.List.{List, [], _∷_, _++_}
 use mathlib.Core.Option.{Option, some, none}
@@ -9,18 +10,19 @@ use native.Mathlib.Omega.{arith}
 use lib.Dec.{leb}
 use lib.ListN.{length, drop, length-append, length-drop}
 use lib.Seq.{drop-at}
-use borrow.Author.Tests.{eq-eqb, ne-eqb}
+use borrow.Author.Tests.{eq-eqb, ne-eqb, le-leb, lt-leb}
 use Rattle.distance.specs.Fix.{Fix}
 use Rattle.distance.specs.Laws.All.{All, all-none, all-more, all-append, all-drop}
 use Rattle.distance.specs.Integers.Tests.{Test, holds, fails, test}
 use Rattle.record.specs.Format.{trail, mark-field, count-field, fixes, fix-at, record-bytes}
 use Rattle.record.specs.Checks.{IsAccepted, too-long, of-ends}
+use Rattle.record.specs.Answers.{Answer, gives, turns-away}
 use Rattle.record.specs.Laws.Each.{length-each}
 use Rattle.record.specs.Laws.Writing.{length-record}
 use Rattle.record.specs.Laws.RoundTrip.{AreBytes, read-record, bytes-in-range, record-are-bytes}
 use Rattle.record.specs.Laws.Accepted.{GoodMark, applied, never-applied, GoodFixes, accepted-good, accept, places-good, good-places, times-good, good-times}
 use Rattle.thinning.specs.Thinning.{thinned}
-use Rattle.thinning.specs.Aging.{Call, by-tolerance, by-days, left-by, answered, aged, aged-by-days, days-give, new-mark, thinned-record, Row, day-table, last-row, record-at, applies}
+use Rattle.thinning.specs.Aging.{Call, by-tolerance, by-days, left-by, answered, age-answer, aged, aged-by-days, days-give, new-mark, thinned-record, Row, day-table, last-row, record-at, applies}
 use Rattle.thinning.specs.Laws.Trail.{kept-all, kept-rising, ends-stay, SameEnds, no-fixes, same-ends, no-more}
 use Rattle.thinning.specs.Laws.Aging.{age-none, age-10, age-refused, age-done, days-done}
 use Rattle.record.specs.Laws.First.{some-none}
@@ -115,6 +117,38 @@ days-as-tolerance b d e a h =
     let one = days-done b d (some e) h (a .accepted) in
     let two = age-done b e (age-none b e (a .accepted) (table-low d e h)) in
     (sym (one .1) ∙ two .1, sym (one .0) ∙ two .0)
+
+-- ---- WHICH CALLS ARE TURNED AWAY on an accepted record: agings at a tolerance above 32,000, by number 10. An aging by days never is.
+abbrev pub TooHigh : Call → Type 0
+TooHigh (by-tolerance e) = 32000 < e
+TooHigh (by-days d) = ⊥
+
+gives-no-refusal : {n k : ℕ} → gives n ≡ turns-away k → ⊥
+gives-no-refusal e = let z : _≡_ {A = ℕ} 0 1 = cc in omega arith
+
+same-number : {n k : ℕ} → _≡_ {A = Answer ℕ} (turns-away n) (turns-away k) → n ≡ k
+same-number e = cc
+
+pub turned-away : (b : List ℕ) (c : Call) (k : ℕ) → IsAccepted trail b → answered b c ≡ turns-away k ↔ ((k ≡ 10) × TooHigh c)
+turned-away b (by-tolerance e) k a = (go (test e 32000), λ (z, h). sym (by-10 h) ∙ ap turns-away (sym z))
+  where
+    by-10 : 32000 < e → turns-away 10 ≡ age-answer b e
+    by-10 h = age-refused b e 10 (age-10 b e (a .accepted) h) .0
+
+    go : {t : Bool} → Test e 32000 t → age-answer b e ≡ turns-away k → (k ≡ 10) × (32000 < e)
+    go (holds h) z = absurd (gives-no-refusal (age-done b e (age-none b e (a .accepted) h) .0 ∙ z))
+    go (fails h) z = (sym (same-number (by-10 h ∙ z)), h)
+turned-away b (by-days d) k a = (λ z. absurd (gives-no-refusal (days-done b d (days-give d) refl (a .accepted) .0 ∙ z)), λ (z, h). absurd h)
+
+-- These apply no tolerance, and every other aging by tolerance applies its own.
+pub too-high-applies : (c : Call) → TooHigh c → applies c ≡ none
+unfolding applies
+too-high-applies (by-tolerance e) h = rw (lt-leb e 32000 h) refl
+too-high-applies (by-days d) h = absurd h
+
+pub others-apply : (e : ℕ) → e ≤ 32000 → applies (by-tolerance e) ≡ some e
+unfolding applies
+others-apply e h = rw (le-leb e 32000 h) refl
 
 -- A tolerance that is applied is within the limit.
 pub applies-low : (c : Call) (e : ℕ) → applies c ≡ some e → e ≤ 32000
