@@ -1,0 +1,82 @@
+/* One cart's trail from C: written, listed, aged over some days, and asked about.
+ *
+ *   rt staticlib export
+ *   cc -I include examples/cart.c target/staticlib/libexport.a -o cart && ./cart
+ */
+#include <stdio.h>
+
+#include "trails.h"
+
+enum { FIXES = 6 };
+
+/* A cart that goes 200 cm along a belt, waits, and goes on across the hall. */
+static const uint32_t times[FIXES] = {1000, 1010, 1020, 1050, 1060, 1080};
+static const int16_t xs[FIXES] = {0, 100, 200, 200, 195, 185};
+static const int16_t ys[FIXES] = {0, 0, 3, 3, 120, 360};
+
+static uint8_t record[10 + 8 * FIXES];
+static uint8_t text[TRAILS_TEXT];
+
+/* Prints the record as text for people. */
+static void list(void) {
+    size_t length = trails_list(record, sizeof record, text);
+    fwrite(text, 1, length, stdout);
+}
+
+/* Prints what an aging answered. */
+static void aged(const char *what, struct trails_answer answer) {
+    if (answer.refusal != TRAILS_ACCEPTED)
+        printf("%s: refused %u\n", what, (unsigned)answer.refusal);
+    else
+        printf("%s: %u fixes measured\n", what, (unsigned)answer.value);
+}
+
+static void where(uint32_t second, uint16_t thousandths) {
+    struct trails_place p = trails_place(record, sizeof record, second, thousandths);
+    if (p.refusal != TRAILS_ACCEPTED)
+        printf("at %u.%03u: refused %u\n", (unsigned)second, thousandths, (unsigned)p.refusal);
+    else
+        printf("at %u.%03u: %lld/%u, %lld/%u, so about %d, %d\n", (unsigned)second, thousandths,
+               (long long)p.x, (unsigned)p.denominator, (long long)p.y, (unsigned)p.denominator,
+               (int)p.whole_x, (int)p.whole_y);
+}
+
+/* Whether the cart was on the packing area, 150 to 250 by 100 to 200, in a window. */
+static void packed(uint32_t start, uint32_t end) {
+    struct trails_crossing c =
+        trails_crosses(record, sizeof record, start, end, 150, 250, 100, 200);
+    if (c.refusal != TRAILS_ACCEPTED)
+        printf("from %u to %u: refused %u\n", (unsigned)start, (unsigned)end, (unsigned)c.refusal);
+    else if (c.crosses)
+        printf("from %u to %u: packed, first %u/%u s after the first fix\n", (unsigned)start,
+               (unsigned)end, (unsigned)c.numerator, (unsigned)c.denominator);
+    else
+        printf("from %u to %u: not packed\n", (unsigned)start, (unsigned)end);
+}
+
+int main(void) {
+    const uint32_t calls[] = {12, 32001, 65536 + 7};
+    struct trails_answer written =
+        trails_write(times, FIXES, xs, FIXES, ys, FIXES, record, sizeof record);
+    if (written.refusal != TRAILS_ACCEPTED) {
+        fprintf(stderr, "refused %u\n", (unsigned)written.refusal);
+        return 1;
+    }
+    list();
+    where(1015, 500);
+    packed(1000, 1080);
+    packed(1000, 1050);
+    packed(1000, 2000);
+
+    aged("tolerance 5", trails_age(record, sizeof record, 5));
+    aged("tolerance 40000", trails_age(record, sizeof record, 40000));
+    aged("1 day", trails_age_by_days(record, sizeof record, 1));
+    list();
+
+    /* tolerance 12, a refused one, and 7 days, which is tolerance 25 */
+    trails_run(record, sizeof record, calls, sizeof calls / sizeof calls[0]);
+    list();
+    where(1015, 500);
+    packed(1000, 1080);
+    return 0;
+}
