@@ -18,12 +18,13 @@ pub struct Command {
 }
 
 /// Every option, with the number of its values.
-const OPTIONS: [(&str, usize); 6] = [
+const OPTIONS: [(&str, usize); 7] = [
     ("--json", 0),
     ("--tolerance", 1),
     ("--days", 1),
     ("--box", 4),
     ("--window", 2),
+    ("--original", 1),
     ("-o", 1),
 ];
 

@@ -177,3 +177,26 @@ fn unchanged(path: &Path, before: Option<&Metadata>) -> io::Result<()> {
         false => Err(io::Error::other("somebody else has written it meanwhile")),
     }
 }
+
+#[cfg(test)]
+mod tests {
+    use super::*;
+
+    #[test]
+    fn what_somebody_else_has_written_meanwhile_stays() {
+        let name = format!("trail-files-test-{}", std::process::id());
+        let folder = std::env::temp_dir().join(name);
+        fs::create_dir(&folder).expect("a new folder");
+        let file = folder.join("t");
+        fs::write(&file, "old").expect("a file");
+        let opened = Opened::read(file.as_os_str()).expect("it is there");
+        fs::write(&file, "newer").expect("a file");
+        let replaced = opened.replace(file.as_os_str(), b"aged");
+        let (bytes, files) = (fs::read(&file), fs::read_dir(&folder));
+        let files = files.expect("it is there").count();
+        fs::remove_dir_all(&folder).expect("it is ours");
+        assert!(replaced.is_err());
+        assert_eq!(bytes.expect("it is there"), b"newer");
+        assert_eq!(files, 1);
+    }
+}

@@ -15,6 +15,7 @@ mod lines;
 mod list;
 mod output;
 mod place;
+mod plot;
 mod replay;
 mod write;
 
@@ -25,7 +26,7 @@ use std::thread;
 use arguments::{Arguments, Command};
 use failure::{Failure, Status};
 
-const COMMANDS: [Command; 7] = [
+const COMMANDS: [Command; 8] = [
     list::COMMAND,
     check::COMMAND,
     write::COMMAND,
@@ -33,6 +34,7 @@ const COMMANDS: [Command; 7] = [
     place::COMMAND,
     cross::COMMAND,
     replay::COMMAND,
+    plot::COMMAND,
 ];
 
 const HELP: &str = "\
@@ -45,6 +47,7 @@ usage: trail COMMAND ARGUMENTS
   place    say where a cart was at a moment
   cross    say whether a cart was in a box, and when first
   replay   try a list of agings on a trail, and print what each does
+  plot     draw a trail
 
 'trail COMMAND --help' says more. A file '-' is the standard input or output.
 Times are in seconds and places in centimetres.

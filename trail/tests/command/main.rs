@@ -3,6 +3,7 @@
 
 mod answers;
 mod folder;
+mod pictures;
 mod refusals;
 mod storing;
 mod texts;

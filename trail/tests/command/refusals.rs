@@ -28,7 +28,7 @@ fn refused(number: usize) -> String {
 }
 
 /// Every command that reads a trail, on the file `t`.
-const READERS: [&[&str]; 8] = [
+const READERS: [&[&str]; 9] = [
     &["list", "t"],
     &["check", "t"],
     &["age", "--tolerance", "5", "t"],
@@ -37,6 +37,7 @@ const READERS: [&[&str]; 8] = [
     &["age", "--days", "30", "t", "-o", "new"],
     &["place", "t", "0"],
     &["replay", "t", "calls"],
+    &["plot", "t", "-o", "new"],
 ];
 
 #[test]

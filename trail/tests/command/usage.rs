@@ -5,7 +5,9 @@ use std::os::unix::net::UnixListener;
 
 use crate::folder::{trail_h, Folder};
 
-const NAMES: [&str; 7] = ["list", "check", "write", "age", "place", "cross", "replay"];
+const NAMES: [&str; 8] = [
+    "list", "check", "write", "age", "place", "cross", "replay", "plot",
+];
 
 #[test]
 fn help_is_printed_for_the_command_and_each_of_its_commands() {
@@ -22,7 +24,7 @@ fn help_is_printed_for_the_command_and_each_of_its_commands() {
 }
 
 /// Words that no command takes. There is a trail `h`.
-const WRONG: [&str; 36] = [
+const WRONG: [&str; 40] = [
     "",
     "lists h",
     "list",
@@ -59,6 +61,10 @@ const WRONG: [&str; 36] = [
     "cross h --box 0 1 0 1 --window -1 1",
     "replay h",
     "replay - -",
+    "plot h",
+    "plot h -o t --json",
+    "plot -o t - --original -",
+    "plot h -o t --box 1 2 3",
 ];
 
 #[test]
