@@ -96,7 +96,7 @@ fn a_run_that_dies_while_it_writes_leaves_the_trail() {
 #[test]
 fn runs_killed_at_any_moment_leave_whole_trails() {
     let folder = Folder::new();
-    let names: Vec<String> = (0..40).map(|k| format!("t{k}")).collect();
+    let names: Vec<String> = (0..16).map(|k| format!("t{k}")).collect();
     for (round, reached) in (0..).zip(&names) {
         names.iter().for_each(|name| folder.put(name, trail_h()));
         let mut run = Command::new(PROGRAM)
