@@ -1,7 +1,4 @@
 //! Aging: thinning again what was thinned.
-//!
-//! STACK. An aging takes up to 600,000 bytes of stack, for a record of 4,096 fixes. Rust's threads have more unless
-//! they are asked to have less.
 
 use crate::interface::{self, Answer};
 use crate::refusal::Refusal;
@@ -54,12 +51,15 @@ fn measured(answer: Answer) -> Result<u32, Refusal> {
 /// Ages the record by tolerance, in centimetres: its fixes are thinned, the kept ones close up at its start, length
 /// and count follow, and the mark becomes the greatest tolerance applied. All bytes from the new length on stay.
 /// Answers how many fixes were measured. Makes checks 1 to 10.
+///
+/// STACK. An aging takes up to 600,000 bytes of stack, for a record of 4,096 fixes. Rust's threads have more unless they
+/// are asked to have less; one with less must not age long trails.
 pub fn age(record: &mut [u8], tolerance: u16) -> Result<u32, Refusal> {
     measured(interface::age(record, tolerance))
 }
 
 /// Ages the record by days: from day 2 at tolerance 10, from day 7 at 25, from day 30 at 100, from day 90 at 400.
-/// Days 0 and 1 change nothing. Makes checks 1 to 9.
+/// Days 0 and 1 change nothing. Makes checks 1 to 9. STACK: as `age`.
 pub fn age_by_days(record: &mut [u8], days: u16) -> Result<u32, Refusal> {
     measured(interface::age_by_days(record, days))
 }

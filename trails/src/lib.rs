@@ -5,6 +5,18 @@
 //! every length of a slice has an answer. Nothing here panics, and only the module `interface` has `unsafe`.
 //!
 //! Times are in seconds and places in centimetres.
+//!
+//! ```
+//! use trails::{Fix, Refusal};
+//!
+//! let fix = |t, x| Fix { t, x, y: 0 };
+//! let mut record = trails::write(&[fix(0, 0), fix(10, 100), fix(20, 200)])?;
+//! assert_eq!(trails::age(&mut record, 40_000), Err(Refusal::HighTolerance));
+//! assert_eq!(trails::age(&mut record, 0), Ok(1));
+//! let kept: Vec<Fix> = trails::fixes(&record)?.collect();
+//! assert_eq!(kept, [fix(0, 0), fix(20, 200)]);
+//! # Ok::<(), Refusal>(())
+//! ```
 #![deny(unsafe_code)]
 #![deny(missing_docs)]
 

@@ -97,7 +97,7 @@ pub fn crosses(record: &[u8], area: Area, window: Window) -> Result<Option<Cross
 }
 
 /// Makes all agings of a list, refused ones too, and then asks `crosses`. Where the question is refused for its
-/// window or its box, the agings are made nevertheless.
+/// window or its box, the agings are made nevertheless. STACK: as `age`.
 pub fn crosses_after(
     record: &mut [u8],
     list: &[Aging],
