@@ -35,7 +35,8 @@ a FILE.tmp-NUMBER beside it, which can be deleted. Goes on past a refused file.
   -o OUT         store the aged trail there and leave FILE; '-' is the standard
                  output. FILE may then be '-', the standard input
   --json         print one line for each file: {\"file\", \"before\", \"count\",
-                 \"mark\", \"measured\"} or {\"file\", \"refused\", \"sentence\"}
+                 \"mark\", \"measured\"}, {\"file\", \"refused\", \"sentence\"} or
+                 {\"file\", \"failed\"}
 ";
 
 /// What an aging did to a trail.

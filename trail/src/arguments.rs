@@ -120,7 +120,7 @@ impl Arguments {
         }
         let given: Vec<OsString> = rest.take(*values).cloned().collect();
         if given.len() < *values {
-            return Err(self.wrong(&format!("{name} needs {values} after it")));
+            return Err(self.wrong(&format!("{name} needs more after it, {values} in all")));
         }
         self.given.push((name, given));
         Ok(())

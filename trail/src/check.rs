@@ -20,8 +20,8 @@ usage: trail check [--json] FILE...
 Says of each FILE how many fixes its trail has, from which second to which, and
 its mark, or why it is refused. Goes on past a refused file.
 
-  --json   print one line for each file: {\"file\", \"count\", \"first\", \"last\", \"mark\"}
-           or {\"file\", \"refused\", \"sentence\"}
+  --json   print one line for each file: {\"file\", \"count\", \"first\", \"last\", \"mark\"},
+           {\"file\", \"refused\", \"sentence\"} or {\"file\", \"failed\"}
 ";
 
 fn run(arguments: &Arguments) -> Result<Status, Failure> {

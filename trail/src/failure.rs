@@ -70,22 +70,31 @@ impl Failure {
         }
     }
 
-    /// Tells people on standard error and, of a refusal, programs on standard output.
+    /// Tells people on standard error and, if they listen, programs on standard output.
     pub fn report(&self, json: bool) -> Status {
         if !matches!(self, Failure::HungUp) {
             output::message(&self.to_string());
         }
-        match self {
-            Failure::Refused(spot, refusal) if json => {
-                let answer = refusal_fields(*refusal);
-                let file = ("file", Json::Text(spot.file.clone()));
-                let line = spot.line.map(|line| ("line", Json::Whole(line as i64)));
-                let all = [file].into_iter().chain(line).chain(answer).collect();
-                let printed = output::print_json(Json::Object(all));
-                printed.map_or(Status::Failed, |()| self.status())
-            }
-            _ => self.status(),
-        }
+        let told = match self.answer() {
+            Some(answer) if json => output::print_json(answer),
+            _ => Ok(()),
+        };
+        told.map_or(Status::Failed, |()| self.status())
+    }
+
+    /// What programs are told: of wrong usage nothing.
+    fn answer(&self) -> Option<Json> {
+        let failed = |what: &String| vec![("failed", Json::Text(what.clone()))];
+        let (spot, what) = match self {
+            Failure::Refused(spot, refusal) => (spot.clone(), refusal_fields(*refusal).into()),
+            Failure::Line(spot, what) => (spot.clone(), failed(what)),
+            Failure::File(file, what) => (Spot::file(file), failed(what)),
+            Failure::Usage(_) | Failure::HungUp => return None,
+        };
+        let mut fields = vec![("file", Json::Text(spot.file))];
+        fields.extend(spot.line.map(|line| ("line", Json::Whole(line as i64))));
+        fields.extend(what);
+        Some(Json::Object(fields))
     }
 }
 

@@ -52,6 +52,9 @@ usage: trail COMMAND ARGUMENTS
 'trail COMMAND --help' says more. A file '-' is the standard input or output.
 Times are in seconds and places in centimetres.
 
+With --json the answer is one line of JSON, and so is a refusal, {\"file\",
+\"refused\", \"sentence\"}, or a failure, {\"file\", \"failed\"}.
+
 Exit status: 0 done; 1 refused, with the refusal's number and sentence;
 2 wrong usage; 3 a file couldn't be read or written.
 ";

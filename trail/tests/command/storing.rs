@@ -213,6 +213,7 @@ fn work_goes_on_past_a_refused_file_and_is_summed_up() {
     assert_eq!(
         ran.text(),
         "{\"file\":\"a\",\"before\":3,\"count\":2,\"mark\":400,\"measured\":1}\n\
+         {\"file\":\"missing\",\"failed\":\"No such file or directory (os error 2)\"}\n\
          {\"file\":\"b\",\"refused\":1,\"sentence\":\"The lent bytes are fewer than 10.\"}\n"
     );
     assert!(ran

@@ -85,6 +85,11 @@ fn a_refused_list_is_not_stored_and_its_line_is_named() {
     assert!(ran
         .text()
         .starts_with("{\"file\":\"-\",\"line\":2,\"refused\":8,"));
+    let ran = folder.run_with(&["write", "--json", "-", "-o", "t"], b"1 0 0\n1 0\n");
+    assert_eq!(ran.status, Some(2));
+    assert!(ran
+        .text()
+        .starts_with("{\"file\":\"-\",\"line\":2,\"failed\":\"a fix is "));
 }
 
 #[test]

@@ -3,6 +3,8 @@
 use std::fs;
 use std::os::unix::net::UnixListener;
 
+use trails_tests::cases::Random;
+
 use crate::folder::{trail_h, Folder};
 
 const NAMES: [&str; 8] = [
@@ -137,4 +139,52 @@ fn words_that_are_not_utf8_are_no_crash() {
     assert_eq!(ran.status, Some(2), "{}", ran.err);
     let ran = folder.run_in_shell(odd, &["age", "--days"]);
     assert_eq!(ran.status, Some(2), "{}", ran.err);
+}
+
+/// Words that may follow each other in any way.
+const WORDS: [&str; 24] = [
+    "--json",
+    "--tolerance",
+    "--days",
+    "--box",
+    "--window",
+    "--original",
+    "-o",
+    "-",
+    "--",
+    "",
+    "h",
+    "h",
+    "missing",
+    "new",
+    "0",
+    "5",
+    "12",
+    "30.5",
+    "-1",
+    "16001",
+    "40000",
+    "99999999999999999999",
+    "é\u{301}\u{7}",
+    "---",
+];
+
+#[test]
+fn any_words_are_answered_with_a_status() {
+    let folder = Folder::new();
+    let mut random = Random::new(17);
+    let mut ends = [0; 4];
+    for _ in 0..400 {
+        folder.put("h", trail_h());
+        let mut words = vec![random.pick(&NAMES)];
+        let more = random.between(0, 7);
+        words.extend((0..more).map(|_| random.pick(&WORDS)));
+        let ran = folder.run(&words);
+        let status = ran.status.and_then(|status| usize::try_from(status).ok());
+        let count = status.and_then(|status| ends.get_mut(status));
+        *count.unwrap_or_else(|| panic!("{words:?}: {ran:?}")) += 1;
+        let explained = status == Some(0) || !ran.err.is_empty();
+        assert!(explained, "{words:?}: {ran:?}");
+    }
+    assert!(ends.iter().all(|count| *count > 0), "{ends:?}");
 }
