@@ -108,7 +108,7 @@ impl Arguments {
         word: &OsStr,
         rest: &mut impl Iterator<Item = &'a OsString>,
     ) -> Result<(), Failure> {
-        let shown = output::shown(&word.to_string_lossy());
+        let shown = output::harmless(&word.to_string_lossy());
         let mut taken = OPTIONS
             .iter()
             .filter(|(name, _)| command.options.contains(name));

@@ -102,7 +102,7 @@ fn obey(words: &[OsString]) -> Result<Status, Failure> {
         return Ok(Status::Done);
     }
     let Some(command) = COMMANDS.iter().find(|command| name == command.name) else {
-        let name = output::shown(&name.to_string_lossy());
+        let name = output::harmless(&name.to_string_lossy());
         return Err(Failure::Usage(format!(
             "there is no command '{name}'; try 'trail --help'"
         )));

@@ -29,15 +29,20 @@ pub fn message(text: &str) {
     let _ = writeln!(io::stderr(), "{text}");
 }
 
-/// A file's name, or another word, as people read it: on one line, and with nothing that a terminal obeys.
-pub fn shown(word: &str) -> String {
+/// A word as people read it: on one line, and with nothing that a terminal obeys.
+pub fn harmless(word: &str) -> String {
     let harmless = |c: char| match c {
         c if c.is_control() => c.escape_default().to_string(),
         c => c.to_string(),
     };
-    match word {
+    word.chars().map(harmless).collect()
+}
+
+/// The name of a file that is read, as people read it.
+pub fn shown(file: &str) -> String {
+    match file {
         "-" => "standard input".into(),
-        word => word.chars().map(harmless).collect(),
+        file => harmless(file),
     }
 }
 
