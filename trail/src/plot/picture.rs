@@ -1,0 +1,228 @@
+//! The picture of a trail: the plane, and below it x and y against time.
+
+use trails::{Area, Crossing, Fix, Window};
+
+use super::panel::{Panel, Side, X, Y};
+use super::scale::{Axis, Stretch};
+use super::svg::{Anchor, Spot, Svg};
+
+/// What is drawn.
+pub struct Picture {
+    pub title: String,
+    pub trail: Vec<Fix>,
+    pub original: Option<Vec<Fix>>,
+    pub tolerance: Option<u16>,
+    pub area: Option<Area>,
+    pub window: Option<Window>,
+    /// when the trail is first in the box
+    pub first: Option<Crossing>,
+    /// the second from which the picture counts time
+    pub start: u32,
+}
+
+const WIDTH: f64 = 960.0;
+const HEIGHT: f64 = 1_030.0;
+const LEFT: f64 = 70.0;
+const RIGHT: f64 = WIDTH - 24.0;
+
+/// From where to where each panel stands, downward.
+const PLANE: (f64, f64) = (96.0, 556.0);
+const X_OVER_TIME: (f64, f64) = (622.0, 782.0);
+const Y_OVER_TIME: (f64, f64) = (824.0, 984.0);
+
+fn panel(across: Stretch, up: Stretch, (top, bottom): (f64, f64)) -> Panel {
+    let axis = |stretch, from, to| Axis { stretch, from, to };
+    Panel {
+        across: axis(across, LEFT, RIGHT),
+        up: axis(up, bottom, top),
+    }
+}
+
+impl Picture {
+    pub fn svg(&self) -> String {
+        let mut svg = Svg::new(WIDTH, HEIGHT, &self.title);
+        svg.text("name", (LEFT, 32.0), Anchor::Start, &self.title);
+        svg.text("soft", (LEFT, 54.0), Anchor::Start, &self.counts());
+        self.draw_legend(&mut svg);
+        self.draw_plane(&mut svg);
+        self.draw_over_time(&mut svg, &X, X_OVER_TIME);
+        self.draw_over_time(&mut svg, &Y, Y_OVER_TIME);
+        let clock = format!("seconds after second {}", self.start);
+        svg.text("soft", (RIGHT, HEIGHT - 10.0), Anchor::End, &clock);
+        svg.finish()
+    }
+
+    fn all(&self) -> impl Iterator<Item = &Fix> {
+        self.trail.iter().chain(self.original.iter().flatten())
+    }
+
+    fn time(&self, second: u32) -> f64 {
+        f64::from(second) - f64::from(self.start)
+    }
+
+    fn counts(&self) -> String {
+        let last = self.all().map(|fix| fix.t).max().unwrap_or(self.start);
+        let of = match &self.original {
+            Some(original) => format!(" of the original's {}", original.len()),
+            None => String::new(),
+        };
+        let count = self.trail.len();
+        let start = self.start;
+        format!("fixes: {count}{of}; seconds {start} to {last}; places in centimetres")
+    }
+
+    /// What each mark means: its class, and the words for it.
+    fn meanings(&self) -> Vec<(&'static str, String)> {
+        let original = self.original.as_ref().map(|_| "original".into());
+        let tolerance = self
+            .tolerance
+            .map(|e| format!("within {e} cm of the trail"));
+        let first = self.first_time();
+        [
+            ("original", original),
+            ("trail", Some("trail".into())),
+            ("fix", Some("kept fix".into())),
+            ("within", tolerance),
+            ("box", self.area.map(|_| "box".into())),
+            ("window", self.window.map(|_| "window".into())),
+            (
+                "first",
+                first.map(|s| format!("first in the box, {s:.3} s")),
+            ),
+        ]
+        .into_iter()
+        .filter_map(|(class, words)| Some((class, words?)))
+        .collect()
+    }
+
+    fn draw_legend(&self, svg: &mut Svg) {
+        let (mut x, y) = (LEFT, 78.0);
+        for (class, words) in self.meanings() {
+            let ends = [(x, y - 4.0), (x + 22.0, y - 4.0)];
+            match class {
+                "trail" | "original" => svg.path(class, ends.into_iter()),
+                "fix" | "first" => svg.circle(class, (x + 14.0, y - 4.0), 4.0),
+                _ => svg.rectangle(class, (x, y - 11.0), (x + 22.0, y + 2.0)),
+            }
+            svg.text("words", (x + 28.0, y), Anchor::Start, &words);
+            // a letter of this size is about 6.5 wide
+            x += 46.0 + 6.5 * words.chars().count() as f64;
+        }
+    }
+
+    /// When the cart is first in the box, in the picture's seconds.
+    fn first_time(&self) -> Option<f64> {
+        let first = self.first?;
+        let after = f64::from(first.numerator) / f64::from(first.denominator.max(1));
+        let begin = self.trail.first()?;
+        Some(self.time(begin.t) + after)
+    }
+
+    /// Where the trail is at one of the picture's seconds: on the straight line between the fixes around it.
+    fn place(&self, side: &Side, second: f64) -> Option<f64> {
+        let mut legs = self.trail.iter().zip(self.trail.iter().skip(1));
+        let leg = legs.find(|(_, to)| self.time(to.t) >= second);
+        let Some((from, to)) = leg else {
+            return self.trail.first().map(side.of);
+        };
+        let share = (second - self.time(from.t)) / (self.time(to.t) - self.time(from.t));
+        Some((side.of)(from) + share * ((side.of)(to) - (side.of)(from)))
+    }
+
+    /// Small where there are many, so that the line is still seen.
+    fn radius(&self) -> f64 {
+        match self.trail.len() {
+            0..=150 => 3.2,
+            151..=800 => 2.2,
+            _ => 1.2,
+        }
+    }
+
+    fn stretch(&self, side: &Side) -> Stretch {
+        side.stretch(self.all(), self.area, self.tolerance)
+    }
+
+    fn draw_plane(&self, svg: &mut Svg) {
+        let panel = panel(self.stretch(&X), self.stretch(&Y), PLANE).with_one_scale();
+        panel.grid(svg, 13, 9);
+        let (one, other) = panel.corners();
+        svg.inside("plane", one, other, |svg| {
+            let spot = |fix: &Fix| panel.at((X.of)(fix), (Y.of)(fix));
+            if let Some(e) = self.tolerance {
+                let width = panel.across.room(2.0 * f64::from(e));
+                // the last spot twice, since a line of one spot is none
+                let spots = self.trail.iter().chain(self.trail.last());
+                svg.wide_path("band", width, spots.map(spot));
+            }
+            if let Some(area) = &self.area {
+                let ((left, right), (bottom, top)) = ((X.edges)(area), (Y.edges)(area));
+                svg.rectangle("box", panel.at(left, bottom), panel.at(right, top));
+            }
+            self.draw_trails(svg, spot);
+            let first = self.first_time();
+            let first = first.and_then(|s| Some((self.place(&X, s)?, self.place(&Y, s)?)));
+            if let Some((x, y)) = first {
+                svg.circle("first", panel.at(x, y), 5.0);
+            }
+        });
+        svg.text("words", (RIGHT, PLANE.1 + 34.0), Anchor::End, "x, cm");
+        svg.text("words", (LEFT - 6.0, PLANE.0 - 6.0), Anchor::End, "y, cm");
+    }
+
+    /// The original, the trail over it, and the trail's fixes on top.
+    fn draw_trails(&self, svg: &mut Svg, spot: impl Fn(&Fix) -> Spot + Copy) {
+        if let Some(original) = &self.original {
+            svg.path("original", original.iter().map(spot));
+        }
+        svg.path("trail", self.trail.iter().map(spot));
+        for fix in &self.trail {
+            svg.circle("fix", spot(fix), self.radius());
+        }
+    }
+
+    fn draw_over_time(&self, svg: &mut Svg, side: &Side, rows: (f64, f64)) {
+        let times = Stretch::of(self.all().map(|fix| self.time(fix.t))).at_least(1.0);
+        let times = times.wider(times.length() * 0.02);
+        let panel = panel(times, self.stretch(side), rows);
+        panel.grid(svg, 13, 5);
+        let (one, other) = panel.corners();
+        svg.inside(&format!("{}-over-time", side.name), one, other, |svg| {
+            self.draw_band(svg, side, &panel);
+            self.draw_question(svg, side, &panel);
+            self.draw_trails(svg, |fix| panel.at(self.time(fix.t), (side.of)(fix)));
+            let first = self.first_time();
+            if let Some((s, place)) = first.and_then(|s| Some((s, self.place(side, s)?))) {
+                svg.circle("first", panel.at(s, place), 5.0);
+            }
+        });
+        let name = format!("{}, cm", side.name);
+        svg.text("words", (LEFT - 6.0, rows.0 - 6.0), Anchor::End, &name);
+    }
+
+    /// Up to the tolerance above and below the trail.
+    fn draw_band(&self, svg: &mut Svg, side: &Side, panel: &Panel) {
+        let Some(e) = self.tolerance.map(f64::from) else {
+            return;
+        };
+        let beside = |by: f64| move |fix: &Fix| panel.at(self.time(fix.t), (side.of)(fix) + by);
+        let above = self.trail.iter().map(beside(e));
+        let below = self.trail.iter().rev().map(beside(-e));
+        svg.area("within", above.chain(below));
+    }
+
+    /// The window from top to bottom, and the box's edges on this side as long as it is asked for.
+    fn draw_question(&self, svg: &mut Svg, side: &Side, panel: &Panel) {
+        let ((left, top), (right, bottom)) = panel.corners();
+        let edge = |second| panel.across.at(self.time(second));
+        let window = self
+            .window
+            .map(|window| (edge(window.start), edge(window.end)));
+        if let Some((start, end)) = window {
+            svg.rectangle("window", (start, top), (end, bottom));
+        }
+        let (start, end) = window.unwrap_or((left, right));
+        if let Some((low, high)) = self.area.as_ref().map(side.edges) {
+            svg.rectangle("box", (start, panel.up.at(low)), (end, panel.up.at(high)));
+        }
+    }
+}

@@ -1,0 +1,121 @@
+//! From seconds and centimetres to places in the picture.
+
+/// A stretch of an axis, in seconds or centimetres.
+#[derive(Clone, Copy, Debug, PartialEq)]
+pub struct Stretch {
+    pub low: f64,
+    pub high: f64,
+}
+
+impl Stretch {
+    /// The shortest that has all these values, or the one at 0 if there are none.
+    pub fn of(values: impl Iterator<Item = f64>) -> Stretch {
+        let all = values.fold(None, |all: Option<Stretch>, value| {
+            let (low, high) = all.map_or((value, value), |all| (all.low, all.high));
+            Some(Stretch {
+                low: low.min(value),
+                high: high.max(value),
+            })
+        });
+        all.unwrap_or(Stretch {
+            low: 0.0,
+            high: 0.0,
+        })
+    }
+
+    pub fn length(&self) -> f64 {
+        self.high - self.low
+    }
+
+    /// The same middle, and at least this length.
+    pub fn at_least(self, length: f64) -> Stretch {
+        self.wider((length - self.length()).max(0.0) / 2.0)
+    }
+
+    /// Wider by so much at either end.
+    pub fn wider(self, by: f64) -> Stretch {
+        Stretch {
+            low: self.low - by,
+            high: self.high + by,
+        }
+    }
+
+    /// Round numbers in the stretch, at most so many: multiples of 1, 2 or 5 times a power of ten.
+    pub fn ticks(&self, most: usize) -> Vec<i64> {
+        let mut steps = (0..18).flat_map(|k| [1, 2, 5].map(|unit| unit * 10_i64.pow(k)));
+        // a stretch of so many steps, and less than one more, has at most one tick more than that
+        let whole_steps = |step: &i64| (self.length() / *step as f64) as usize;
+        let step = steps.find(|step| whole_steps(step) < most);
+        let step = step.unwrap_or(i64::MAX);
+        let (first, last) = (self.low / step as f64, self.high / step as f64);
+        (first.ceil() as i64..=last.floor() as i64)
+            .map(|k| k.saturating_mul(step))
+            .collect()
+    }
+}
+
+/// An axis: a stretch, and from where to where it is drawn.
+#[derive(Clone, Copy, Debug)]
+pub struct Axis {
+    pub stretch: Stretch,
+    pub from: f64,
+    pub to: f64,
+}
+
+impl Axis {
+    /// Where a value is drawn. A stretch of an axis is never empty.
+    pub fn at(&self, value: f64) -> f64 {
+        let share = (value - self.stretch.low) / self.stretch.length().max(f64::MIN_POSITIVE);
+        self.from + share * (self.to - self.from)
+    }
+
+    /// How much room a length takes.
+    pub fn room(&self, length: f64) -> f64 {
+        (self.at(length) - self.at(0.0)).abs()
+    }
+}
+
+#[cfg(test)]
+mod tests {
+    use super::{Axis, Stretch};
+
+    fn stretch(low: f64, high: f64) -> Stretch {
+        Stretch { low, high }
+    }
+
+    #[test]
+    fn ticks_are_round_and_not_too_many() {
+        assert_eq!(stretch(0.0, 10.0).ticks(6), [0, 2, 4, 6, 8, 10]);
+        assert_eq!(stretch(-7.0, 7.0).ticks(4), [-5, 0, 5]);
+        assert_eq!(stretch(3.2, 3.9).ticks(5), []);
+        for length in 1..70_000 {
+            let ticks = stretch(-13.0, f64::from(length)).ticks(9);
+            assert!((1..=9).contains(&ticks.len()), "{length}");
+        }
+    }
+
+    #[test]
+    fn stretches_have_all_their_values() {
+        let all = Stretch::of([3.0, -1.0, 2.0].into_iter());
+        assert_eq!(all, stretch(-1.0, 3.0));
+        assert_eq!(
+            Stretch::of([].into_iter()).at_least(8.0),
+            stretch(-4.0, 4.0)
+        );
+        assert_eq!(all.at_least(2.0), all);
+    }
+
+    #[test]
+    fn values_are_drawn_in_proportion() {
+        let axis = Axis {
+            stretch: stretch(-10.0, 10.0),
+            from: 100.0,
+            to: 0.0,
+        };
+        assert_eq!(
+            (axis.at(-10.0), axis.at(0.0), axis.at(10.0)),
+            (100.0, 50.0, 0.0)
+        );
+        assert_eq!(axis.room(4.0), 20.0);
+    }
+}

@@ -1,0 +1,162 @@
+//! A small writer of SVG.
+
+use std::fmt::Write as _;
+
+/// A place in the picture.
+pub type Spot = (f64, f64);
+
+/// Where a text stands beside its spot.
+#[derive(Clone, Copy)]
+pub enum Anchor {
+    Start,
+    Middle,
+    End,
+}
+
+/// How things look, on a light ground and, where the viewer asks for it, on a dark one. Viewers that know nothing of
+/// that show the light picture, on its own ground.
+const STYLE: &str = "\
+text{font:12px sans-serif;fill:#1b1f24}
+.name{font-size:17px;font-weight:bold}
+.soft{fill:#57606a}
+.ground{fill:#ffffff}
+.frame{fill:none;stroke:#8c959f}
+.grid{stroke:#e4e7eb}
+.window{fill:#57606a;fill-opacity:.13;stroke:#57606a;stroke-opacity:.4}
+.band{fill:none;stroke:#0b5fbf;stroke-opacity:.16;stroke-linecap:round;stroke-linejoin:round}
+.within{fill:#0b5fbf;fill-opacity:.16}
+.original{fill:none;stroke:#77818c;stroke-width:1.2;stroke-linejoin:round}
+.trail{fill:none;stroke:#0b5fbf;stroke-width:1.8;stroke-linejoin:round}
+.fix{fill:#ffffff;stroke:#0b5fbf;stroke-width:1.4}
+.box{fill:#b45309;fill-opacity:.12;stroke:#b45309;stroke-width:1.4}
+.first{fill:#c4201d;stroke:#ffffff}
+@media (prefers-color-scheme:dark){
+text{fill:#e6e9ee}
+.soft{fill:#9aa5b1}
+.ground{fill:#12161b}
+.frame{stroke:#5b6570}
+.grid{stroke:#262d35}
+.window{fill:#c3ccd6;stroke:#c3ccd6}
+.band{stroke:#6cb2ff;stroke-opacity:.22}
+.within{fill:#6cb2ff;fill-opacity:.22}
+.original{stroke:#a3adb8}
+.trail{stroke:#6cb2ff}
+.fix{fill:#12161b;stroke:#6cb2ff}
+.box{fill:#f0a54a;stroke:#f0a54a}
+.first{fill:#ff7b72;stroke:#12161b}
+}
+";
+
+pub struct Svg {
+    text: String,
+}
+
+fn escaped(text: &str) -> String {
+    let escape = |c: char| match c {
+        '&' => "&amp;".to_string(),
+        '<' => "&lt;".to_string(),
+        '>' => "&gt;".to_string(),
+        '"' => "&quot;".to_string(),
+        // two that XML hasn't
+        '\u{fffe}' | '\u{ffff}' => "\u{fffd}".to_string(),
+        c => c.to_string(),
+    };
+    text.chars().map(escape).collect()
+}
+
+impl Svg {
+    pub fn new(width: f64, height: f64, title: &str) -> Svg {
+        let size = format!("width=\"{width}\" height=\"{height}\"");
+        let name = escaped(title);
+        Svg {
+            text: format!(
+                "<svg xmlns=\"http://www.w3.org/2000/svg\" {size} viewBox=\"0 0 {width} {height}\" \
+                 role=\"img\">\n<title>{name}</title>\n<style>\n{STYLE}</style>\n\
+                 <rect class=\"ground\" {size}/>\n"
+            ),
+        }
+    }
+
+    fn add(&mut self, element: &str) {
+        self.text.push_str(element);
+        self.text.push('\n');
+    }
+
+    pub fn line(&mut self, class: &str, (x1, y1): Spot, (x2, y2): Spot) {
+        self.add(&format!(
+            "<line class=\"{class}\" x1=\"{x1:.1}\" y1=\"{y1:.1}\" x2=\"{x2:.1}\" y2=\"{y2:.1}\"/>"
+        ));
+    }
+
+    /// A rectangle between two opposite corners.
+    pub fn rectangle(&mut self, class: &str, one: Spot, other: Spot) {
+        let (x, y) = (one.0.min(other.0), one.1.min(other.1));
+        let (width, height) = ((one.0 - other.0).abs(), (one.1 - other.1).abs());
+        self.add(&format!(
+            "<rect class=\"{class}\" x=\"{x:.1}\" y=\"{y:.1}\" width=\"{width:.1}\" height=\"{height:.1}\"/>"
+        ));
+    }
+
+    pub fn circle(&mut self, class: &str, (x, y): Spot, radius: f64) {
+        self.add(&format!(
+            "<circle class=\"{class}\" cx=\"{x:.1}\" cy=\"{y:.1}\" r=\"{radius}\"/>"
+        ));
+    }
+
+    /// A line through all spots.
+    pub fn path(&mut self, class: &str, spots: impl Iterator<Item = Spot>) {
+        let points = points(spots);
+        self.add(&format!(
+            "<polyline class=\"{class}\" points=\"{points}\"/>"
+        ));
+    }
+
+    /// A line through all spots, as wide as a band.
+    pub fn wide_path(&mut self, class: &str, width: f64, spots: impl Iterator<Item = Spot>) {
+        let points = points(spots);
+        self.add(&format!(
+            "<polyline class=\"{class}\" stroke-width=\"{width:.1}\" points=\"{points}\"/>"
+        ));
+    }
+
+    pub fn area(&mut self, class: &str, spots: impl Iterator<Item = Spot>) {
+        let points = points(spots);
+        self.add(&format!("<polygon class=\"{class}\" points=\"{points}\"/>"));
+    }
+
+    pub fn text(&mut self, class: &str, (x, y): Spot, anchor: Anchor, text: &str) {
+        let anchor = match anchor {
+            Anchor::Start => "start",
+            Anchor::Middle => "middle",
+            Anchor::End => "end",
+        };
+        let text = escaped(text);
+        self.add(&format!(
+            "<text class=\"{class}\" x=\"{x:.1}\" y=\"{y:.1}\" text-anchor=\"{anchor}\">{text}</text>"
+        ));
+    }
+
+    /// Draws what `draw` does, cut off at a rectangle's edges. The name is given once in a picture.
+    pub fn inside(&mut self, name: &str, one: Spot, other: Spot, draw: impl FnOnce(&mut Svg)) {
+        self.add(&format!("<clipPath id=\"{name}\">"));
+        self.rectangle("clip", one, other);
+        self.add(&format!("</clipPath>\n<g clip-path=\"url(#{name})\">"));
+        draw(self);
+        self.add("</g>");
+    }
+
+    pub fn finish(mut self) -> String {
+        self.add("</svg>");
+        self.text
+    }
+}
+
+fn points(spots: impl Iterator<Item = Spot>) -> String {
+    let mut points = String::new();
+    for (x, y) in spots {
+        let space = if points.is_empty() { "" } else { " " };
+        // writing to a String never fails
+        let _ = write!(points, "{space}{x:.1},{y:.1}");
+    }
+    points
+}

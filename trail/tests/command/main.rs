@@ -1,0 +1,10 @@
+//! Runs the built command with good, bad and hostile input.
+#![forbid(unsafe_code)]
+
+mod answers;
+mod folder;
+mod pictures;
+mod refusals;
+mod storing;
+mod texts;
+mod usage;

@@ -1,0 +1,147 @@
+//! Records and questions that document 01 turns away.
+
+use trails_tests::cases::{Draft, Random};
+use trails_tests::plain;
+
+use crate::folder::{trail_h, Folder, Ran};
+
+/// The sentences of document 01, by hand.
+const SENTENCES: [&str; 14] = [
+    "The lent bytes are fewer than 10.",
+    "The kind isn't 1.",
+    "The count is 0 or above 4,096.",
+    "The length field isn't 10 + 8 times the count.",
+    "The lent bytes are fewer than the length field.",
+    "The mark is above 32,000 and isn't 65,535.",
+    "Some x or y is outside −16,000 to 16,000.",
+    "Some fix's time isn't later than the time before it.",
+    "The last time less the first is above 65,535.",
+    "The asked tolerance is above 32,000.",
+    "The asked thousandths are above 999.",
+    "The asked moment is before the first fix or after the last.",
+    "The window's end is before its start, or either is outside the trail's times.",
+    "A box edge is outside −16,000 to 16,000, or a low edge is above its high edge.",
+];
+
+fn refused(number: usize) -> String {
+    format!("refused {number}: {}", SENTENCES[number - 1])
+}
+
+/// Every command that reads a trail, on the file `t`.
+const READERS: [&[&str]; 9] = [
+    &["list", "t"],
+    &["check", "t"],
+    &["age", "--tolerance", "5", "t"],
+    &["age", "--tolerance", "40000", "t"],
+    &["age", "--days", "30", "t"],
+    &["age", "--days", "30", "t", "-o", "new"],
+    &["place", "t", "0"],
+    &["replay", "t", "calls"],
+    &["plot", "t", "-o", "new"],
+];
+
+#[test]
+fn every_fault_of_a_record_is_named_by_every_command() {
+    let folder = Folder::new();
+    folder.put("calls", "days 30\n");
+    let cross = "cross t --box 0 1 0 1 --window 0 0";
+    let cross: Vec<&str> = cross.split(' ').collect();
+    let mut random = Random::new(3);
+    for fault in 1..=9u8 {
+        for n in [2, 40] {
+            let mut draft = Draft::accepted(&mut random, n);
+            draft.spoil(fault, &mut random);
+            let bytes = draft.bytes();
+            assert_eq!(plain::read(&bytes).err(), Some(fault));
+            folder.put("t", &bytes);
+            let message = format!("t: {}", refused(fault.into()));
+            for words in READERS.iter().chain([&cross.as_slice()]) {
+                folder.run(words).fails(1, &message);
+                assert!(folder.get("t") == bytes, "{words:?}");
+            }
+            assert_eq!(folder.names(), ["calls", "t"]);
+        }
+    }
+}
+
+#[test]
+fn refusals_are_told_to_programs_too() {
+    let folder = Folder::new();
+    folder.put("t", "a text");
+    let ran = folder.run(&["list", "--json", "t"]);
+    assert_eq!(ran.status, Some(1));
+    assert_eq!(ran.err, format!("t: {}\n", refused(1)));
+    let sentence = SENTENCES[0];
+    let line = format!("{{\"file\":\"t\",\"refused\":1,\"sentence\":\"{sentence}\"}}\n");
+    assert_eq!(ran.text(), line);
+}
+
+fn of_h(words: &str) -> Ran {
+    let folder = Folder::new();
+    folder.put("h", trail_h());
+    let ran = folder.run(&words.split(' ').collect::<Vec<_>>());
+    assert_eq!(folder.get("h"), trail_h(), "{words}");
+    assert_eq!(folder.names(), ["h"], "{words}");
+    ran
+}
+
+#[test]
+fn tolerances_above_32000_are_refused() {
+    let message = format!("h: {}", refused(10));
+    of_h("age --tolerance 32001 h").fails(1, &message);
+    of_h("age --tolerance 65535 h -o new").fails(1, &message);
+}
+
+#[test]
+fn moments_outside_the_trail_are_refused() {
+    let message = format!("h: {}", refused(12));
+    of_h("place h 30.001").fails(1, &message);
+    of_h("place h 4294967295").fails(1, &message);
+}
+
+#[test]
+fn windows_and_boxes_are_refused() {
+    let window = format!("h: {}", refused(13));
+    of_h("cross h --box 0 1 0 1 --window 5 4").fails(1, &window);
+    of_h("cross h --box 0 1 0 1 --window 0 31").fails(1, &window);
+    of_h("cross h --box 1 0 0 1 --window 0 31").fails(1, &window);
+    let edges = format!("h: {}", refused(14));
+    of_h("cross h --box 1 0 0 1 --window 0 30").fails(1, &edges);
+    of_h("cross h --box -16001 0 0 1 --window 0 30").fails(1, &edges);
+    of_h("cross h --box 0 1 0 2147483647 --window 0 30").fails(1, &edges);
+}
+
+#[test]
+fn check_goes_on_past_a_refused_file() {
+    let folder = Folder::new();
+    folder.put("a", trail_h());
+    folder.put("b", "");
+    let ran = folder.run(&["check", "b", "a"]);
+    assert_eq!(ran.status, Some(1));
+    assert_eq!(ran.text(), "a: fixes 4, seconds 0 to 30, mark never\n");
+    assert_eq!(ran.err, format!("b: {}\n", refused(1)));
+}
+
+/// Whatever stands in a file, every command ends with a status of its own and leaves a refused file alone.
+#[test]
+fn noise_is_answered_like_the_plain_version() {
+    let folder = Folder::new();
+    folder.put("calls", "tolerance 3\n");
+    let mut random = Random::new(5);
+    for n in [0, 1, 9, 10, 11, 18, 100, 40_000] {
+        let mut bytes = random.bytes(n);
+        // half of them get past check 2
+        if n % 2 == 0 && n > 6 {
+            bytes[4] = 1;
+            bytes[5] = 0;
+        }
+        folder.put("t", &bytes);
+        let number = plain::read(&bytes).expect_err("noise is no trail");
+        for words in READERS {
+            folder
+                .run(words)
+                .fails(1, &format!("t: {}", refused(number.into())));
+            assert!(folder.get("t") == bytes, "{words:?}");
+        }
+    }
+}

@@ -1,0 +1,190 @@
+//! Wrong usage, help, and files that aren't there.
+
+use std::fs;
+use std::os::unix::net::UnixListener;
+
+use trails_tests::cases::Random;
+
+use crate::folder::{trail_h, Folder};
+
+const NAMES: [&str; 8] = [
+    "list", "check", "write", "age", "place", "cross", "replay", "plot",
+];
+
+#[test]
+fn help_is_printed_for_the_command_and_each_of_its_commands() {
+    let folder = Folder::new();
+    let all = folder.run(&["--help"]);
+    assert_eq!(all.status, Some(0));
+    for name in NAMES {
+        assert!(all.text().contains(&format!("\n  {name} ")), "{name}");
+        let help = folder.run(&[name, "--help"]);
+        assert_eq!((help.status, help.err.as_str()), (Some(0), ""));
+        assert!(help.text().starts_with(&format!("usage: trail {name} ")));
+        assert!(help.text().lines().all(|line| line.chars().count() <= 84));
+    }
+}
+
+/// Words that no command takes. There is a trail `h`.
+const WRONG: [&str; 40] = [
+    "",
+    "lists h",
+    "list",
+    "list h h",
+    "list --tolerance 3 h",
+    "list --jason h",
+    "list --json --json h",
+    "check",
+    "write h",
+    "write -o t",
+    "write h -o",
+    "write --json h -o -",
+    "age h",
+    "age --tolerance 5",
+    "age --tolerance h",
+    "age --tolerance -1 h",
+    "age --tolerance 65536 h",
+    "age --tolerance 5 --days 5 h",
+    "age --days 1.5 h",
+    "age --days 5 h h -o t",
+    "age --days 5 -",
+    "age --days 5 h -",
+    "age --days 5 --json h -o -",
+    "place h",
+    "place h -1",
+    "place h 4294967296",
+    "place h 1.",
+    "place h 1.0000",
+    "cross h --box 0 1 0 1",
+    "cross h --window 0 1",
+    "cross h --box 0 1 0 --window 0 1",
+    "cross h --box 0 1 0 1.5 --window 0 1",
+    "cross h --box 0 1 0 2147483648 --window 0 1",
+    "cross h --box 0 1 0 1 --window -1 1",
+    "replay h",
+    "replay - -",
+    "plot h",
+    "plot h -o t --json",
+    "plot -o t - --original -",
+    "plot h -o t --box 1 2 3",
+];
+
+#[test]
+fn wrong_usage_is_said_on_one_line() {
+    let folder = Folder::new();
+    folder.put("h", trail_h());
+    for words in WRONG {
+        let ran = folder.run(&words.split_whitespace().collect::<Vec<_>>());
+        assert_eq!(ran.status, Some(2), "{words}: {}", ran.err);
+        assert_eq!(ran.text(), "", "{words}");
+        assert!(ran.err.starts_with("trail: "), "{words}: {}", ran.err);
+        assert_eq!(ran.err.lines().count(), 1, "{words}: {}", ran.err);
+        assert_eq!(folder.get("h"), trail_h(), "{words}");
+    }
+    assert_eq!(folder.names(), ["h"]);
+}
+
+#[test]
+fn files_that_cannot_be_read_are_named() {
+    let folder = Folder::new();
+    fs::create_dir(folder.path().join("shelf")).expect("a folder");
+    let _socket = UnixListener::bind(folder.path().join("socket")).expect("a socket");
+    for name in ["missing", "shelf", "socket", "missing/t"] {
+        for words in [
+            &["list", name][..],
+            &["check", name],
+            &["place", name, "5"],
+            &["age", "--days", "7", name],
+            &["age", "--days", "7", name, "-o", "new"],
+            &["write", name, "-o", "new"],
+        ] {
+            let ran = folder.run(words);
+            assert_eq!(ran.status, Some(3), "{words:?}");
+            assert!(ran.err.starts_with(&format!("{name}: ")), "{}", ran.err);
+            assert_eq!(ran.err.lines().count(), 1, "{}", ran.err);
+        }
+    }
+    assert_eq!(folder.names(), ["shelf", "socket"]);
+}
+
+#[test]
+fn files_above_64_mib_are_turned_away() {
+    let folder = Folder::new();
+    let file = fs::File::create(folder.path().join("big")).expect("a file");
+    // a file of nothing, which takes no room
+    file.set_len((64 << 20) + 1).expect("a length");
+    let ran = folder.run(&["list", "big"]);
+    ran.fails(3, "big: it has more than 64 MiB");
+    let ran = folder.run(&["list", "/dev/zero"]);
+    ran.fails(3, "/dev/zero: it has more than 64 MiB");
+}
+
+#[test]
+fn a_reader_that_hangs_up_is_no_crash() {
+    let folder = Folder::new();
+    let many: String = (0..4_096).map(|t| format!("{t},{t},-{t}\n")).collect();
+    let words = ["write", "-", "-o", "t"];
+    folder.run_with(&words, many.as_bytes()).says("");
+    let ran = folder.run_in_shell("\"$@\" | head -n 1", &["list", "t"]);
+    ran.says("trail 4096 never\n");
+}
+
+#[test]
+fn words_that_are_not_utf8_are_no_crash() {
+    let folder = Folder::new();
+    let odd = "\"$@\" \"$(printf 'a\\377')\"";
+    let ran = folder.run_in_shell(odd, &["list"]);
+    assert_eq!(ran.status, Some(3), "{}", ran.err);
+    let ran = folder.run_in_shell("\"$@\" \"$(printf -- '-\\377')\"", &["list"]);
+    assert_eq!(ran.status, Some(2), "{}", ran.err);
+    let ran = folder.run_in_shell(odd, &["age", "--days"]);
+    assert_eq!(ran.status, Some(2), "{}", ran.err);
+}
+
+/// Words that may follow each other in any way.
+const WORDS: [&str; 24] = [
+    "--json",
+    "--tolerance",
+    "--days",
+    "--box",
+    "--window",
+    "--original",
+    "-o",
+    "-",
+    "--",
+    "",
+    "h",
+    "h",
+    "missing",
+    "new",
+    "0",
+    "5",
+    "12",
+    "30.5",
+    "-1",
+    "16001",
+    "40000",
+    "99999999999999999999",
+    "é\u{301}\u{7}",
+    "---",
+];
+
+#[test]
+fn any_words_are_answered_with_a_status() {
+    let folder = Folder::new();
+    let mut random = Random::new(17);
+    let mut ends = [0; 4];
+    for _ in 0..400 {
+        folder.put("h", trail_h());
+        let mut words = vec![random.pick(&NAMES)];
+        let more = random.between(0, 7);
+        words.extend((0..more).map(|_| random.pick(&WORDS)));
+        let ran = folder.run(&words);
+        let status = ran.status.and_then(|status| usize::try_from(status).ok());
+        let count = status.and_then(|status| ends.get_mut(status));
+        *count.unwrap_or_else(|| panic!("{words:?}: {ran:?}")) += 1;
+        let explained = status == Some(0) || !ran.err.is_empty();
+        assert!(explained, "{words:?}: {ran:?}");
+    }
+    assert!(ends.iter().all(|count| *count > 0), "{ends:?}");
+}

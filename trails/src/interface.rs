@@ -1,0 +1,159 @@
+//! The functions of `include/trails.h`, for safe Rust. This is the only module with `unsafe`.
+#![allow(unsafe_code)]
+
+use crate::questions::{Area, Window};
+
+#[repr(C)]
+pub struct Head {
+    pub refusal: u32,
+    pub count: u32,
+    pub mark: u32,
+}
+
+#[repr(C)]
+pub struct Step {
+    pub found: u32,
+    pub t: u32,
+    pub x: i32,
+    pub y: i32,
+}
+
+#[repr(C)]
+pub struct Answer {
+    pub refusal: u32,
+    pub value: u32,
+}
+
+#[repr(C)]
+pub struct Place {
+    pub refusal: u32,
+    pub denominator: u32,
+    pub x: i64,
+    pub y: i64,
+    pub whole_x: i32,
+    pub whole_y: i32,
+}
+
+#[repr(C)]
+pub struct Crossing {
+    pub refusal: u32,
+    pub crosses: u32,
+    pub numerator: u32,
+    pub denominator: u32,
+}
+
+extern "C" {
+    fn trails_check(record: *const u8, lent: usize) -> Head;
+    fn trails_read(record: *const u8, lent: usize, position: usize) -> Step;
+    fn trails_write(
+        t: *const u32,
+        t_count: usize,
+        x: *const i16,
+        x_count: usize,
+        y: *const i16,
+        y_count: usize,
+        output: *mut u8,
+        output_bytes: usize,
+    ) -> Answer;
+    fn trails_age(record: *mut u8, lent: usize, tolerance: u16) -> Answer;
+    fn trails_age_by_days(record: *mut u8, lent: usize, days: u16) -> Answer;
+    fn trails_place(record: *const u8, lent: usize, second: u32, thousandths: u16) -> Place;
+    fn trails_crosses(
+        record: *const u8,
+        lent: usize,
+        start: u32,
+        end: u32,
+        left: i32,
+        right: i32,
+        bottom: i32,
+        top: i32,
+    ) -> Crossing;
+    fn trails_crosses_after(
+        record: *mut u8,
+        lent: usize,
+        calls: *const u32,
+        call_count: usize,
+        start: u32,
+        end: u32,
+        left: i32,
+        right: i32,
+        bottom: i32,
+        top: i32,
+    ) -> Crossing;
+}
+
+pub fn check(record: &[u8]) -> Head {
+    // SAFETY: a slice's pointer isn't null, is aligned, and reaches as many elements as its length says, all of
+    // them readable; the header asks nothing else. The calls below say only what they have more than this one.
+    unsafe { trails_check(record.as_ptr(), record.len()) }
+}
+
+pub fn read(record: &[u8], position: usize) -> Step {
+    // SAFETY: as in `check`.
+    unsafe { trails_read(record.as_ptr(), record.len(), position) }
+}
+
+pub fn write(t: &[u32], x: &[i16], y: &[i16], output: &mut [u8]) -> Answer {
+    // SAFETY: as in `check`; the output is lent alone, so that it may be written and overlaps no column.
+    unsafe {
+        trails_write(
+            t.as_ptr(),
+            t.len(),
+            x.as_ptr(),
+            x.len(),
+            y.as_ptr(),
+            y.len(),
+            output.as_mut_ptr(),
+            output.len(),
+        )
+    }
+}
+
+pub fn age(record: &mut [u8], tolerance: u16) -> Answer {
+    // SAFETY: as in `check`; the record is lent alone, so that it may be written.
+    unsafe { trails_age(record.as_mut_ptr(), record.len(), tolerance) }
+}
+
+pub fn age_by_days(record: &mut [u8], days: u16) -> Answer {
+    // SAFETY: as in `age`.
+    unsafe { trails_age_by_days(record.as_mut_ptr(), record.len(), days) }
+}
+
+pub fn place(record: &[u8], second: u32, thousandths: u16) -> Place {
+    // SAFETY: as in `check`.
+    unsafe { trails_place(record.as_ptr(), record.len(), second, thousandths) }
+}
+
+pub fn crosses(record: &[u8], area: Area, window: Window) -> Crossing {
+    // SAFETY: as in `check`.
+    unsafe {
+        trails_crosses(
+            record.as_ptr(),
+            record.len(),
+            window.start,
+            window.end,
+            area.left,
+            area.right,
+            area.bottom,
+            area.top,
+        )
+    }
+}
+
+pub fn crosses_after(record: &mut [u8], calls: &[u32], area: Area, window: Window) -> Crossing {
+    // SAFETY: as in `age`; the record overlaps no call.
+    unsafe {
+        trails_crosses_after(
+            record.as_mut_ptr(),
+            record.len(),
+            calls.as_ptr(),
+            calls.len(),
+            window.start,
+            window.end,
+            area.left,
+            area.right,
+            area.bottom,
+            area.top,
+        )
+    }
+}
