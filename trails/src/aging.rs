@@ -35,7 +35,7 @@ impl Aging {
     }
 
     /// Its number in a list that is lent to the interface.
-    pub(crate) fn number(self) -> u32 {
+    fn number(self) -> u32 {
         match self {
             Aging::Tolerance(tolerance) => tolerance.into(),
             Aging::Days(days) => 0x1_0000 | u32::from(days),
@@ -62,4 +62,15 @@ pub fn age(record: &mut [u8], tolerance: u16) -> Result<u32, Refusal> {
 /// Days 0 and 1 change nothing. Makes checks 1 to 9. STACK: as `age`.
 pub fn age_by_days(record: &mut [u8], days: u16) -> Result<u32, Refusal> {
     measured(interface::age_by_days(record, days))
+}
+
+/// Makes all agings of a list, one after the other, each on the record as the one before left it. Refused ones change
+/// nothing, and those after them are made. STACK: as `age`.
+pub fn run(record: &mut [u8], list: &[Aging]) {
+    interface::run(record, &numbers(list));
+}
+
+/// A list as it is lent to the interface.
+pub(crate) fn numbers(list: &[Aging]) -> Vec<u32> {
+    list.iter().map(|aging| aging.number()).collect()
 }

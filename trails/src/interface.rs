@@ -42,6 +42,9 @@ pub struct Crossing {
     pub denominator: u32,
 }
 
+/// The most bytes that a listing has.
+pub const LONGEST_TEXT: usize = 118_805;
+
 extern "C" {
     fn trails_check(record: *const u8, lent: usize) -> Head;
     fn trails_read(record: *const u8, lent: usize, position: usize) -> Step;
@@ -55,6 +58,7 @@ extern "C" {
         output: *mut u8,
         output_bytes: usize,
     ) -> Answer;
+    fn trails_list(record: *const u8, lent: usize, output: *mut [u8; LONGEST_TEXT]) -> usize;
     fn trails_age(record: *mut u8, lent: usize, tolerance: u16) -> Answer;
     fn trails_age_by_days(record: *mut u8, lent: usize, days: u16) -> Answer;
     fn trails_place(record: *const u8, lent: usize, second: u32, thousandths: u16) -> Place;
@@ -68,6 +72,7 @@ extern "C" {
         bottom: i32,
         top: i32,
     ) -> Crossing;
+    fn trails_run(record: *mut u8, lent: usize, calls: *const u32, call_count: usize);
     fn trails_crosses_after(
         record: *mut u8,
         lent: usize,
@@ -109,6 +114,11 @@ pub fn write(t: &[u32], x: &[i16], y: &[i16], output: &mut [u8]) -> Answer {
     }
 }
 
+pub fn list(record: &[u8], output: &mut [u8; LONGEST_TEXT]) -> usize {
+    // SAFETY: as in `check`; the output is lent alone, so that it may be written, and has the bytes that are asked.
+    unsafe { trails_list(record.as_ptr(), record.len(), output) }
+}
+
 pub fn age(record: &mut [u8], tolerance: u16) -> Answer {
     // SAFETY: as in `check`; the record is lent alone, so that it may be written.
     unsafe { trails_age(record.as_mut_ptr(), record.len(), tolerance) }
@@ -136,6 +146,18 @@ pub fn crosses(record: &[u8], area: Area, window: Window) -> Crossing {
             area.right,
             area.bottom,
             area.top,
+        )
+    }
+}
+
+pub fn run(record: &mut [u8], calls: &[u32]) {
+    // SAFETY: as in `age`; the record overlaps no call.
+    unsafe {
+        trails_run(
+            record.as_mut_ptr(),
+            record.len(),
+            calls.as_ptr(),
+            calls.len(),
         )
     }
 }

@@ -26,7 +26,7 @@ mod questions;
 mod record;
 mod refusal;
 
-pub use aging::{age, age_by_days, Aging};
+pub use aging::{age, age_by_days, run, Aging};
 pub use questions::{crosses, crosses_after, place, Area, Crossing, Moment, Place, Window};
 pub use record::{check, fixes, list, write, write_into, Fix, Fixes, Head, LONGEST};
 pub use refusal::Refusal;

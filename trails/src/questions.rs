@@ -1,6 +1,6 @@
 //! The two questions: where a cart was at a moment, and whether it crossed a box.
 
-use crate::aging::Aging;
+use crate::aging::{numbers, Aging};
 use crate::interface;
 use crate::refusal::Refusal;
 
@@ -104,6 +104,10 @@ pub fn crosses_after(
     area: Area,
     window: Window,
 ) -> Result<Option<Crossing>, Refusal> {
-    let calls: Vec<u32> = list.iter().map(|aging| aging.number()).collect();
-    told(interface::crosses_after(record, &calls, area, window))
+    told(interface::crosses_after(
+        record,
+        &numbers(list),
+        area,
+        window,
+    ))
 }

@@ -1,8 +1,6 @@
 //! The trail record: its head, its fixes, writing one, and its listing.
 
-use std::fmt::Write as _;
-
-use crate::interface;
+use crate::interface::{self, LONGEST_TEXT};
 use crate::refusal::Refusal;
 
 /// The most bytes that a record has.
@@ -100,13 +98,12 @@ pub fn write(list: &[Fix]) -> Result<Vec<u8>, Refusal> {
 /// The listing of the record that the bytes begin with, as the listing program prints it: count and mark, then each
 /// fix, then `end`. Makes checks 1 to 9.
 pub fn list(record: &[u8]) -> Result<String, Refusal> {
-    let head = check(record)?;
-    let mark = head.mark.map_or("never".into(), |mark| mark.to_string());
-    let mut text = format!("trail {} {mark}\n", head.count);
-    for Fix { t, x, y } in fixes(record)? {
-        // writing to a String never fails
-        let _ = writeln!(text, "fix {t} {x} {y}");
-    }
-    text.push_str("end\n");
-    Ok(text)
+    check(record)?;
+    let mut text = vec![0; LONGEST_TEXT];
+    // there is always room, since the text was made as long as is asked
+    let length = text
+        .first_chunk_mut()
+        .map_or(0, |room| interface::list(record, room));
+    text.truncate(length);
+    Ok(String::from_utf8_lossy(&text).into_owned())
 }

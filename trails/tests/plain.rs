@@ -178,6 +178,9 @@ fn crossings_are_told_before_and_after_agings() {
             let _ = aging.apply(&mut in_turn);
         }
         assert!(at_once == in_turn, "{}", case.name);
+        let mut unasked = case.bytes.clone();
+        trails::run(&mut unasked, &list);
+        assert!(unasked == in_turn, "{}", case.name);
         assert_eq!(answer, trails::crosses(&in_turn, area, window));
     }
 }
