@@ -1,0 +1,48 @@
+# A day of one tray cart, as lines 'time x y' for `trail write`: it waits at a belt, is pushed to the next, and so on through the hall.
+#
+#     awk -f examples/day.awk > day.txt
+#
+# Times are in seconds of the day, places in centimetres. The cart reports every seven seconds, which makes a whole day one trail.
+# The same numbers come out on every machine: the wobble is drawn by a small generator of this script's own.
+
+function wobble(size) {
+    seed = (seed * 75 + 74) % 65537
+    return seed % (2 * size + 1) - size
+}
+
+function report(x, y) {
+    printf "%d %d %d\n", time, x, y
+    time += 7
+}
+
+# the cart stands at a belt; its beacon wavers by a centimetre or two
+function waits(reports, k) {
+    for (k = 0; k < reports; k++) report(x + wobble(2), y + wobble(2))
+}
+
+# it is pushed in a line, by a hand that does not keep it quite straight
+function pushed(to_x, to_y, reports, k, part) {
+    for (k = 1; k <= reports; k++) {
+        part = k / reports
+        report(x + int((to_x - x) * part) + wobble(6), y + int((to_y - y) * part) + wobble(6))
+    }
+    x = to_x
+    y = to_y
+}
+
+BEGIN {
+    seed = 1
+    time = 21600
+    x = -1500
+    y = -600
+    for (round = 0; round < 20; round++) {
+        waits(60)
+        pushed(-200, -580, 12)   # to the grader
+        waits(40 + wobble(10))
+        pushed(-180, 400, 9)     # along the grader's belt
+        waits(10)
+        pushed(1400, 420, 15)    # across to the packing area
+        waits(25 + wobble(8))
+        pushed(-1500, -600, 20)  # and back to the wash
+    }
+}
