@@ -1,10 +1,11 @@
-//! A table of what the proved calls cost: an aging beside plain Rust. It reports; it fails only if the two thinnings
-//! differ.
+//! A table of what the proved calls cost: an aging beside plain Rust, and questions per second. It reports; it fails
+//! only if the two thinnings differ.
 #![forbid(unsafe_code)]
 
 mod aging;
 mod beside;
 mod layout;
+mod questions;
 mod thinning;
 mod timing;
 mod trails;
@@ -12,4 +13,5 @@ mod trails;
 fn main() {
     println!("Times are medians of {} runs.", timing::RUNS);
     beside::section();
+    questions::section();
 }
