@@ -1,90 +1,38 @@
-//! How long the proved aging takes beside a straightforward Rust thinning of the same spans, on document 02's two
-//! trails of 4,096 fixes at tolerance 1. It reports; it fails only if the two thin differently.
+//! One table of what the proved calls cost: an aging beside plain Rust, questions per second, how an aging's time grows
+//! with the fixes, and the stack that it takes at most. It reports; it fails only if the two thinnings differ.
 #![forbid(unsafe_code)]
 
+mod aging;
+mod beside;
+mod growth;
+mod layout;
+mod questions;
+mod stack;
 mod thinning;
+mod timing;
+mod trails;
 
-use std::hint::black_box;
-use std::time::{Duration, Instant};
+use std::process::ExitCode;
 
-use trails_tests::interface;
-use trails_tests::plain::{encode, read, Fix, Head, MOST_FIXES, NEVER};
-use trails_tests::shapes::{curve, dearest};
-
-const RUNS: usize = 11;
-const TOLERANCE: u16 = 1;
-
-/// A trail, and how many copies of it a run thins, so that no run is too short to be timed.
-struct Subject {
-    name: &'static str,
-    fixes: Vec<Fix>,
-    copies: u32,
+fn table() -> ExitCode {
+    println!("Times are medians of {} runs.", timing::RUNS);
+    beside::section();
+    questions::section();
+    growth::section();
+    stack::section();
+    ExitCode::SUCCESS
 }
 
-impl Subject {
-    fn record(&self) -> Vec<u8> {
-        encode(Head::of(NEVER, self.fixes.len()), &self.fixes)
-    }
-
-    /// Both must have done the same work.
-    fn agrees(&self) {
-        let mut record = self.record();
-        let answer = interface::age(&mut record, TOLERANCE);
-        let thinned = thinning::thin(&self.fixes, TOLERANCE);
-        let aged = read(&record).map(|trail| trail.fixes);
-        assert_eq!((answer.refusal, answer.value), (0, thinned.count));
-        assert_eq!(aged, Ok(thinned.kept));
-    }
-
-    fn ours(&self) -> Duration {
-        let mut fresh = vec![self.record(); self.copies as usize];
-        let start = Instant::now();
-        for record in &mut fresh {
-            black_box(interface::age(black_box(record), TOLERANCE));
+fn main() -> ExitCode {
+    let arguments: Vec<String> = std::env::args().skip(1).collect();
+    let arguments: Vec<&str> = arguments.iter().map(String::as_str).collect();
+    match arguments[..] {
+        [] => table(),
+        // how the table's last section starts this program again
+        [stack::ARGUMENT, direction, bytes] => stack::age_within(direction, bytes),
+        _ => {
+            eprintln!("the bench takes no arguments");
+            ExitCode::from(2)
         }
-        start.elapsed() / self.copies
     }
-
-    fn plain(&self) -> Duration {
-        let fresh = vec![self.fixes.clone(); self.copies as usize];
-        let start = Instant::now();
-        for fixes in &fresh {
-            black_box(thinning::thin(black_box(fixes), TOLERANCE));
-        }
-        start.elapsed() / self.copies
-    }
-
-    fn report(&self) {
-        self.agrees();
-        // by turns, so that whatever slows the machine meanwhile slows both
-        let (mut ours, mut plain) = (Vec::new(), Vec::new());
-        for _ in 0..RUNS {
-            ours.push(self.ours());
-            plain.push(self.plain());
-        }
-        let (ours, plain) = (median(ours), median(plain));
-        let ratio = ours.as_secs_f64() / plain.as_secs_f64();
-        let name = self.name;
-        println!("{name}: proved {ours:.2?}, plain {plain:.2?}, ratio {ratio:.2}");
-    }
-}
-
-fn median(mut times: Vec<Duration>) -> Duration {
-    times.sort();
-    times[times.len() / 2]
-}
-
-fn main() {
-    let dearest = Subject {
-        name: "dearest trail",
-        fixes: dearest(MOST_FIXES),
-        copies: 1,
-    };
-    let smooth = Subject {
-        name: "smooth trail",
-        fixes: curve(MOST_FIXES),
-        copies: 40,
-    };
-    dearest.report();
-    smooth.report();
 }
