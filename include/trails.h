@@ -157,7 +157,8 @@ size_t trails_list(const uint8_t *record, size_t lent,
  * Where a check fails, no byte is changed.
  * STACK. The call has 4,096 bytes of marks, and calls itself one level deeper for
  * each split in a split, at most 4,095 levels: of a record with count fixes about
- * 5,000 + 144 * count bytes on x86-64, so 600,000 at most. */
+ * 5,000 + 144 * count bytes on x86-64, so 600,000 at most. A thread needs some
+ * thousands more for itself: one of 602,112 bytes was seen to suffice. */
 struct trails_answer trails_age(uint8_t *record, size_t lent, uint16_t tolerance);
 
 /* Ages the record by days. Makes checks 1 to 9. Where none fails, it does what
