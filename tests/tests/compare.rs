@@ -6,6 +6,7 @@ use trails_tests::cases::Settings;
 use trails_tests::compare::{plain, proved, run, Case, Columns, Crossed, Outcome, Reply};
 use trails_tests::compare::{Operation, Sides};
 use trails_tests::plain::crossing::{Area, Question, Window};
+use trails_tests::plain::thinning::thin;
 use trails_tests::plain::{encode, read, record_length, Fix, Head, NEVER};
 
 const SETTINGS: Settings = Settings {
@@ -74,6 +75,24 @@ fn a_tolerance_that_is_wrong_from_100_on_is_shown_at_100() {
     });
     assert_eq!(case.operation, Operation::Age(100));
     assert_eq!(case.buffer, record(0, &[(0, 0, 0)]));
+}
+
+/// Of a distance that is just within the tolerance hardly a number can be changed alone.
+#[test]
+fn a_distance_at_the_tolerance_is_shown_in_small_numbers() {
+    let case = shown(|case, outcome| {
+        let (Operation::Age(e @ 1..=32_000), Ok(trail)) = (&case.operation, read(&case.buffer))
+        else {
+            return;
+        };
+        let kept = |e: u16| thin(&trail.fixes, e).kept;
+        if kept(e - 1) != kept(*e) {
+            outcome.after.buffer[0] ^= 0xFF;
+        }
+    });
+    assert_eq!(case.operation, Operation::Age(1));
+    let fixes = [(0, 1, 0), (1, 0, 0), (2, 0, 0)];
+    assert_eq!(case.buffer, record(0, &fixes), "{case:?}");
 }
 
 #[test]

@@ -1,15 +1,20 @@
-//! A case that shows something, made as small as it still shows it. The search is greedy and draws nothing, so a case
-//! is always made into the same one; and it is bounded.
+//! A case that shows something, made as small as it still shows it. The search is greedy and bounded, and what it draws
+//! is from a fixed seed, so a case is always made into the same one.
 
 use std::ops::Range;
 
 use super::{Case, Columns, Operation};
+use crate::cases::Random;
 use crate::plain::crossing::Question;
 use crate::plain::record_length;
 
 /// How many bytes of buffers may be tried, with some more for each try.
 const EFFORT: usize = 50_000_000;
 const EACH: usize = 64;
+
+/// How often small numbers are drawn for a whole case, and how many of them it may have.
+const DRAWS: usize = 20_000;
+const FEW: usize = 40;
 
 /// The smallest case found that still fails. The one that is given must.
 pub fn minimised(case: Case, fails: &dyn Fn(&Case) -> bool) -> Case {
@@ -50,7 +55,7 @@ impl Search<'_> {
         self.shorten(Case::rest, Case::without_rest);
         self.earlier();
         self.nearer_to_0();
-        self.case != before
+        self.case != before || self.small_at_once()
     }
 
     /// Leaves out parts of a sequence: all, halves, and so on to single ones.
@@ -81,6 +86,16 @@ impl Search<'_> {
         for k in 0..self.case.numbers().len() {
             self.lessen(&|case| case.numbers()[k], &|case, n| case.with(k, n));
         }
+    }
+
+    /// Draws small numbers for all at once, which helps where only some together still fail. Says whether it did.
+    fn small_at_once(&mut self) -> bool {
+        let mut random = Random::new(0);
+        let few = self.case.numbers().len() <= FEW;
+        (0..if few { DRAWS } else { 0 }).any(|_| {
+            let candidate = self.case.small(&mut random);
+            candidate.weight() < self.case.weight() && self.keep(candidate)
+        })
     }
 
     /// Puts a smaller number in the place of one as long as that still fails: 0 if it may be, or else half of it, or
@@ -296,6 +311,25 @@ impl Case {
             }
         });
         case
+    }
+
+    /// The same with numbers from 0 to 3, and times that begin at 0 and are at most 3 seconds apart.
+    fn small(&self, random: &mut Random) -> Case {
+        let mut case = self.clone();
+        case.visit(&mut |_| random.between(0, 3).into());
+        let mut t = 0;
+        for k in 0..self.times().len() {
+            case.set_time(k, t);
+            t += random.between(0, 3) as u32;
+        }
+        case
+    }
+
+    /// How much its numbers and times come to.
+    fn weight(&self) -> i128 {
+        let numbers: i128 = self.numbers().iter().map(|n| n.abs()).sum();
+        let gaps: i128 = (0..self.times().len()).map(|k| self.gap(k).abs()).sum();
+        numbers + gaps
     }
 
     fn visit(&mut self, change: Visit) {
