@@ -62,7 +62,7 @@ fn buffer(random: &mut Random) -> Vec<u8> {
     let n = size(random);
     match random.between(0, 99) {
         0..=59 => accepted(n, random).bytes(),
-        60..=89 => damaged(n.max(2), random).bytes(),
+        60..=89 => damaged(n, random).bytes(),
         90..=94 => turned(accepted(n, random).bytes(), random),
         95..=97 => {
             let size = random.between(0, 60) as usize;
@@ -81,7 +81,9 @@ fn buffer(random: &mut Random) -> Vec<u8> {
 fn damaged(n: usize, random: &mut Random) -> Draft {
     let mut draft = accepted(n, random);
     let most = random.pick(&[1, 1, 1, 2, 3]);
-    let mut faults: Vec<u8> = (0..most).map(|_| random.between(1, 9) as u8).collect();
+    // a lone fix has nobody to be out of order with
+    let last = if n == 1 { 7 } else { 9 };
+    let mut faults: Vec<u8> = (0..most).map(|_| random.between(1, last) as u8).collect();
     faults.sort_by(|a, b| b.cmp(a));
     faults.dedup();
     for fault in faults {
@@ -182,6 +184,10 @@ fn list(random: &mut Random) -> Vec<Fix> {
             spoil(one.min(other), &mut list, random);
         }
         7 => list.truncate(1),
+        8 => {
+            list.truncate(1);
+            spoil(7, &mut list, random);
+        }
         _ => {}
     }
     list
