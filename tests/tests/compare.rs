@@ -91,8 +91,12 @@ fn a_distance_at_the_tolerance_is_shown_in_small_numbers() {
         }
     });
     assert_eq!(case.operation, Operation::Age(1));
-    let fixes = [(0, 1, 0), (1, 0, 0), (2, 0, 0)];
-    assert_eq!(case.buffer, record(0, &fixes), "{case:?}");
+    let fixes = read(&case.buffer).expect("it is accepted").fixes;
+    let times: Vec<u32> = fixes.iter().map(|fix| fix.t).collect();
+    assert_eq!(times, [0, 1, 2]);
+    // one coordinate of one fix is 1, or -1; which of them doesn't matter
+    let off = fixes.iter().map(|fix| fix.x.abs() + fix.y.abs());
+    assert_eq!(off.sum::<i16>(), 1, "{fixes:?}");
 }
 
 #[test]

@@ -88,7 +88,7 @@ impl Search<'_> {
         }
     }
 
-    /// Draws small numbers for all at once, which helps where only some together still fail. Says whether it did.
+    /// Draws small numbers for many at once, which helps where only some together still fail. Says whether it did.
     fn small_at_once(&mut self) -> bool {
         let mut random = Random::new(0);
         let few = self.case.numbers().len() <= FEW;
@@ -313,10 +313,14 @@ impl Case {
         case
     }
 
-    /// The same with numbers from 0 to 3, and times that begin at 0 and are at most 3 seconds apart.
+    /// The same with some numbers from -3 to 3 instead, and times that begin at 0 and are at most 3 seconds apart.
     fn small(&self, random: &mut Random) -> Case {
         let mut case = self.clone();
-        case.visit(&mut |_| random.between(0, 3).into());
+        case.visit(&mut |n| match random.between(0, 3) {
+            0 => n,
+            1 => random.between(-3, 0).into(),
+            _ => random.between(0, 3).into(),
+        });
         let mut t = 0;
         for k in 0..self.times().len() {
             case.set_time(k, t);
