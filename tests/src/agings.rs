@@ -33,6 +33,24 @@ impl Call {
         ])
     }
 
+    /// The call as the interface's lists have it: below 65,536 a tolerance, and from there on days, whatever is above
+    /// 16 bits.
+    pub fn number(self, random: &mut Random) -> u32 {
+        let some = random.between(1, 65_535) as u32;
+        match self {
+            Call::Tolerance(e) => e.into(),
+            Call::Days(days) => (random.pick(&[1, 2, some, 65_535]) << 16) + u32::from(days),
+        }
+    }
+
+    /// The call that a number of a list is.
+    pub fn of(number: u32) -> Call {
+        match u16::try_from(number) {
+            Ok(e) => Call::Tolerance(e),
+            Err(_) => Call::Days((number % 65_536) as u16),
+        }
+    }
+
     fn proved(self, buffer: &mut [u8]) -> Answer {
         match self {
             Call::Tolerance(e) => interface::age(buffer, e),

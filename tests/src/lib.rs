@@ -7,6 +7,7 @@
 
 pub mod agings;
 pub mod cases;
+pub mod compare;
 pub mod interface;
 pub mod plain;
 pub mod questions;

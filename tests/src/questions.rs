@@ -70,7 +70,7 @@ pub fn refused_in_order<Q: Asked>(
 // ---- the place question
 
 /// A second and its thousandths.
-#[derive(Clone, Copy, Debug)]
+#[derive(Clone, Copy, Debug, PartialEq, Eq)]
 pub struct Moment {
     pub second: u32,
     pub thousandths: u16,

@@ -11,15 +11,6 @@ use trails_tests::plain::{record_length, Fix, MOST_FIXES};
 use trails_tests::questions::{agrees, told, Asked as _};
 use trails_tests::shapes::{trail, SHAPES};
 
-/// A call as the interface takes it: below 65,536 a tolerance, and from there on days, whatever is above 16 bits.
-fn number(call: Call, random: &mut Random) -> u32 {
-    let some = random.between(1, 65_535) as u32;
-    match call {
-        Call::Tolerance(e) => e.into(),
-        Call::Days(days) => (random.pick(&[1, 2, some, 65_535]) << 16) + u32::from(days),
-    }
-}
-
 /// A list and a question, and how many answers were of each kind, so that none can be missing unseen.
 struct Run {
     random: Random,
@@ -41,7 +32,7 @@ impl Run {
     }
 
     fn numbers(&mut self, calls: &[Call]) -> Vec<u32> {
-        let number = |&call: &Call| number(call, &mut self.random);
+        let number = |call: &Call| call.number(&mut self.random);
         calls.iter().map(number).collect()
     }
 

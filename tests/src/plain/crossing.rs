@@ -4,7 +4,7 @@ use super::place::{Place, Time};
 use super::{read, refuse_if, Fix};
 
 /// A box, whose edges belong to it.
-#[derive(Clone, Copy, Debug)]
+#[derive(Clone, Copy, Debug, PartialEq, Eq)]
 pub struct Area {
     pub left: i32,
     pub right: i32,
@@ -13,13 +13,13 @@ pub struct Area {
 }
 
 /// Whole seconds on the fixes' own clock, both included.
-#[derive(Clone, Copy, Debug)]
+#[derive(Clone, Copy, Debug, PartialEq, Eq)]
 pub struct Window {
     pub start: u32,
     pub end: u32,
 }
 
-#[derive(Clone, Copy, Debug)]
+#[derive(Clone, Copy, Debug, PartialEq, Eq)]
 pub struct Question {
     pub window: Window,
     pub area: Area,
