@@ -1,9 +1,8 @@
-//! The functions of `include/trails.h`, for safe Rust. This is the only module with `unsafe`.
+//! The functions of `include/trails.h`, for safe Rust. This is the only file with `unsafe`; the tests have it as a module too.
 #![allow(unsafe_code)]
 
-use crate::questions::{Area, Window};
-
 #[repr(C)]
+#[derive(Clone, Copy, Debug, PartialEq, Eq)]
 pub struct Head {
     pub refusal: u32,
     pub count: u32,
@@ -11,6 +10,7 @@ pub struct Head {
 }
 
 #[repr(C)]
+#[derive(Clone, Copy, Debug, PartialEq, Eq)]
 pub struct Step {
     pub found: u32,
     pub t: u32,
@@ -19,12 +19,14 @@ pub struct Step {
 }
 
 #[repr(C)]
+#[derive(Clone, Copy, Debug, PartialEq, Eq)]
 pub struct Answer {
     pub refusal: u32,
     pub value: u32,
 }
 
 #[repr(C)]
+#[derive(Clone, Copy, Debug, Default, PartialEq, Eq)]
 pub struct Place {
     pub refusal: u32,
     pub denominator: u32,
@@ -34,12 +36,25 @@ pub struct Place {
     pub whole_y: i32,
 }
 
+/// No `PartialEq`: the form of a crossing's fraction is free.
 #[repr(C)]
+#[derive(Clone, Copy, Debug)]
 pub struct Crossing {
     pub refusal: u32,
     pub crosses: u32,
     pub numerator: u32,
     pub denominator: u32,
+}
+
+/// A window and a box, as the functions take them.
+#[derive(Clone, Copy)]
+pub struct Question {
+    pub start: u32,
+    pub end: u32,
+    pub left: i32,
+    pub right: i32,
+    pub bottom: i32,
+    pub top: i32,
 }
 
 /// The most bytes that a listing has.
@@ -134,18 +149,18 @@ pub fn place(record: &[u8], second: u32, thousandths: u16) -> Place {
     unsafe { trails_place(record.as_ptr(), record.len(), second, thousandths) }
 }
 
-pub fn crosses(record: &[u8], area: Area, window: Window) -> Crossing {
+pub fn crosses(record: &[u8], asked: Question) -> Crossing {
     // SAFETY: as in `check`.
     unsafe {
         trails_crosses(
             record.as_ptr(),
             record.len(),
-            window.start,
-            window.end,
-            area.left,
-            area.right,
-            area.bottom,
-            area.top,
+            asked.start,
+            asked.end,
+            asked.left,
+            asked.right,
+            asked.bottom,
+            asked.top,
         )
     }
 }
@@ -162,7 +177,7 @@ pub fn run(record: &mut [u8], calls: &[u32]) {
     }
 }
 
-pub fn crosses_after(record: &mut [u8], calls: &[u32], area: Area, window: Window) -> Crossing {
+pub fn crosses_after(record: &mut [u8], calls: &[u32], asked: Question) -> Crossing {
     // SAFETY: as in `age`; the record overlaps no call.
     unsafe {
         trails_crosses_after(
@@ -170,12 +185,12 @@ pub fn crosses_after(record: &mut [u8], calls: &[u32], area: Area, window: Windo
             record.len(),
             calls.as_ptr(),
             calls.len(),
-            window.start,
-            window.end,
-            area.left,
-            area.right,
-            area.bottom,
-            area.top,
+            asked.start,
+            asked.end,
+            asked.left,
+            asked.right,
+            asked.bottom,
+            asked.top,
         )
     }
 }

@@ -81,6 +81,18 @@ pub fn place(record: &[u8], moment: Moment) -> Result<Place, Refusal> {
     })
 }
 
+/// A question as it is lent to the interface.
+fn asked(area: Area, window: Window) -> interface::Question {
+    interface::Question {
+        start: window.start,
+        end: window.end,
+        left: area.left,
+        right: area.right,
+        bottom: area.bottom,
+        top: area.top,
+    }
+}
+
 fn told(answer: interface::Crossing) -> Result<Option<Crossing>, Refusal> {
     Refusal::none_in(answer.refusal)?;
     let yes = answer.crosses != 0;
@@ -93,7 +105,7 @@ fn told(answer: interface::Crossing) -> Result<Option<Crossing>, Refusal> {
 /// Whether the cart was in the box at some time of the window, fractions of seconds too, and when first. Makes
 /// checks 1 to 9, 13 and 14.
 pub fn crosses(record: &[u8], area: Area, window: Window) -> Result<Option<Crossing>, Refusal> {
-    told(interface::crosses(record, area, window))
+    told(interface::crosses(record, asked(area, window)))
 }
 
 /// Makes all agings of a list, refused ones too, and then asks `crosses`. Where the question is refused for its
@@ -107,7 +119,6 @@ pub fn crosses_after(
     told(interface::crosses_after(
         record,
         &numbers(list),
-        area,
-        window,
+        asked(area, window),
     ))
 }
