@@ -5,11 +5,11 @@ use Prim.Native.Nat.{ℕ}
 use lib.IntN.{ℤ, pos, natAbs}
 use Rattle.distance.specs.Fix.{Fix}
 use Rattle.distance.specs.Box.{Box}
-use Rattle.record.specs.Format.{trail, count-field, mark-field}
+use Rattle.format.specs.Format.{trail, count-field, mark-field}
 use Rattle.record.specs.Checks.{read-refusal}
 use Rattle.record.specs.Answers.{Answer, gives, turns-away}
-use Rattle.questions.specs.Moment.{Standing}
-use Rattle.questions.specs.declared.Fraction.{Fraction}
+use Rattle.moment.specs.Moment.{Standing}
+use Rattle.legs.specs.declared.Fraction.{Fraction}
 use Rattle.export.specs.declared.Head.{Head}
 use Rattle.export.specs.declared.Step.{Step}
 use Rattle.export.specs.declared.Answer.{Answer as Numbers}

@@ -10,21 +10,20 @@ use lib.IntN.{ℤ}
 use lib.ListN.{length}
 use borrow.Author.Tests.{ltb-true, ltb-false}
 use Rattle.distance.specs.Fix.{Fix}
-use Rattle.record.specs.Format.{trail, count-field, mark-field}
+use Rattle.format.specs.Format.{trail, count-field, mark-field, of-head}
 use Rattle.record.specs.Checks.{Check, few-bytes, other-kind, bad-count, bad-length, short-record, bad-mark, misplaced, unordered, long-span, high-tolerance, bad-thousandths, bad-moment, bad-window, bad-box, short-output, number, first, FirstHolds, this, not-before, asked-of, refusal, placing, crossing as crosses, read-refusal}
-use Rattle.record.specs.Reading.{of-head}
 use Rattle.record.specs.Answers.{Answer, turns-away, answer as told}
-use Rattle.record.specs.Writing.{write-refusal, write-answer}
+use Rattle.writing.specs.Writing.{write-refusal, write-answer}
 use Rattle.record.specs.Laws.First.{some-none, stops, first-exactly}
 use Rattle.record.specs.Laws.Head.{says, few}
-use Rattle.record.specs.Laws.Reading.{of-head-field}
+use Rattle.format.specs.Laws.Layout.{of-head-field}
 use Rattle.distance.specs.Box.{Box}
-use Rattle.questions.specs.Moment.{asked-moment, place-answer}
-use Rattle.questions.specs.Crossing.{asked-crossing, cross-answer}
-use Rattle.questions.specs.declared.Spot.{Spot}
-use Rattle.questions.specs.declared.Placed.{Placed}
-use Rattle.questions.specs.declared.Placed.the-variants as Place
-use Rattle.questions.specs.Answers.{placed}
+use Rattle.moment.specs.Moment.{asked-moment, place-answer}
+use Rattle.crossing.specs.Crossing.{asked-crossing, cross-answer}
+use Rattle.moment.specs.declared.Spot.{Spot}
+use Rattle.moment.specs.declared.Placed.{Placed}
+use Rattle.moment.specs.declared.Placed.the-variants as Place
+use Rattle.moment.specs.Answers.{placed}
 use Rattle.thinning.specs.Aging.{age-refusal, age-answer, days-refusal, days-answer}
 use Rattle.export.specs.declared.Head.{Head}
 use Rattle.export.specs.declared.Step.{Step}

@@ -10,10 +10,10 @@ ghost use mathlib.Core.Path.{_≡_};
 ghost use mathlib.Core.List.{_++_};
 ghost use Prim.Native.Nat.{_≤_};
 ghost use lib.ListN.{length, drop};
-ghost use Rattle.record.specs.Format.{trail};
-ghost use Rattle.record.specs.Text.{text};
+ghost use Rattle.format.specs.Format.{trail};
+ghost use Rattle.text.specs.Text.{text};
 ghost use Rattle.record.specs.Reading.{yields};
-ghost use Rattle.record.specs.Writing.{columns, write-answer, written};
+ghost use Rattle.writing.specs.Writing.{columns, write-answer, written};
 ghost use Rattle.thinning.specs.Answers.{counted};
 ghost use Rattle.thinning.specs.Aging.{age-answer, aged, days-answer, aged-by-days};
 ghost use Rattle.export.specs.Interface.{head, step, answer};
@@ -87,7 +87,7 @@ pub extern "C" fn trails_check(b: &[u8]) -> Head
             mark: 0,
         },
         record::Checked::Accepted => {
-            let h = record::head_of(b);
+            let h = format::head_of(b);
             Head {
                 refusal: 0,
                 count: h.count,
@@ -127,13 +127,13 @@ pub extern "C" fn trails_read(b: &[u8], position: usize) -> Step
 pub extern "C" fn trails_write(t: &[u32], x: &[i16], y: &[i16], out: &mut [u8]) -> Answer
     ensures { λ r. ⌜ (r ≡ answer (write-answer trail (columns (now (t .entry)) (now (x .entry)) (now (y .entry))) (now (out .entry)))) × (now (out .exit) ≡ written trail (columns (now (t .entry)) (now (x .entry)) (now (y .entry))) (now (out .entry))) ⌝ }
 {
-    let w = record::write(t, x, y, out);
+    let w = writing::write(t, x, y, out);
     match w {
-        record::Written::Length(n) => Answer {
+        writing::Written::Length(n) => Answer {
             refusal: 0,
             value: n,
         },
-        record::Written::Refused(k) => Answer {
+        writing::Written::Refused(k) => Answer {
             refusal: wide(k),
             value: 0,
         },
@@ -145,7 +145,7 @@ pub extern "C" fn trails_write(t: &[u32], x: &[i16], y: &[i16], out: &mut [u8]) 
 pub extern "C" fn trails_list(b: &[u8], out: &mut [u8; 118805]) -> usize
     ensures { λ r. ⌜ (r ≡ length (text trail (now (b .entry)))) × (r ≤ 118805) × (now (out .exit) ≡ text trail (now (b .entry)) ++ drop r (now (out .entry))) ⌝ }
 {
-    record::list(b, out)
+    text::list(b, out)
 }
 
 // What an aging answers, as numbers.

@@ -1,18 +1,19 @@
 // The questions and the lists of agings, for programs in other languages.
 use crate::Crossing;
 use crate::Spot;
+use crossing::Crossed;
+use crossing::Edge;
+use crossing::Edges;
+use crossing::Window;
 use distance::Seconds;
-use questions::Crossed;
-use questions::Edge;
-use questions::Edges;
-use questions::Placed;
-use questions::Window;
+use moment::Placed;
 ghost use mathlib.Core.Path.{_≡_};
-ghost use Rattle.record.specs.Format.{trail, never, mark-field};
+ghost use Rattle.format.specs.Format.{trail, never, mark-field};
 ghost use Rattle.record.specs.Checks.{IsAccepted};
-ghost use Rattle.questions.specs.Answers.{placed, crossed, boxOf};
-ghost use Rattle.questions.specs.Moment.{place-answer};
-ghost use Rattle.questions.specs.Crossing.{cross-answer};
+ghost use Rattle.moment.specs.Answers.{placed};
+ghost use Rattle.crossing.specs.Answers.{crossed, boxOf};
+ghost use Rattle.moment.specs.Moment.{place-answer};
+ghost use Rattle.crossing.specs.Crossing.{cross-answer};
 ghost use Rattle.questions.specs.Agings.{run, calls-of};
 ghost use Rattle.questions.specs.Claim.{Claim};
 ghost use Rattle.export.specs.Interface.{spot, crossing, box};
@@ -93,7 +94,7 @@ fn edges(left: i32, right: i32, bottom: i32, top: i32) -> Edges
 pub extern "C" fn trails_place(b: &[u8], second: u32, thousandths: u16) -> Spot
     ensures { λ r. ⌜ r ≡ spot (place-answer trail (now (b .entry)) second thousandths) ⌝ }
 {
-    let p = questions::place(b, Seconds(second), thousandths);
+    let p = moment::place(b, Seconds(second), thousandths);
     spot_of(p)
 }
 
@@ -110,7 +111,7 @@ pub extern "C" fn trails_crosses(
 ) -> Crossing
     ensures { λ r. ⌜ r ≡ crossing (cross-answer trail (now (b .entry)) start end (box left right bottom top)) ⌝ }
 {
-    let c = questions::crosses(b, window(start, end), edges(left, right, bottom, top));
+    let c = crossing::crosses(b, window(start, end), edges(left, right, bottom, top));
     crossing_of(c)
 }
 

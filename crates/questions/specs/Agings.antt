@@ -7,7 +7,7 @@ use Prim.Native.Nat.{ℕ, _%_, max}
 use lib.Dec.{ltb}
 use Rattle.distance.specs.Fix.{Fix}
 use Rattle.distance.specs.Place.{Time, From, Until}
-use Rattle.record.specs.Format.{never}
+use Rattle.format.specs.Format.{never}
 use Rattle.record.specs.Checks.{last-fix}
 use Rattle.thinning.specs.Thinning.{thinned}
 use Rattle.thinning.specs.Aging.{Call, by-tolerance, by-days, left-by, applies}

@@ -8,12 +8,12 @@ use lib.ListN.{length, drop}
 use Rattle.distance.specs.Fix.{Fix}
 use Rattle.distance.specs.Place.{Time, From, Until, place, Proper, Near}
 use Rattle.distance.specs.Box.{Box, In, NearBox, NearSide}
-use Rattle.record.specs.Format.{trail, mark-field, length-field, fixes}
+use Rattle.format.specs.Format.{trail, mark-field, length-field, fixes}
 use Rattle.record.specs.Checks.{IsAccepted, bad-window, bad-box, sentence, FirstHolds, asked-of}
 use Rattle.record.specs.Answers.{Answer, gives, turns-away}
 use Rattle.thinning.specs.Aging.{Call}
-use Rattle.questions.specs.declared.Fraction.{Fraction}
-use Rattle.questions.specs.Crossing.{Told, Denied, after-first, asked-crossing, cross-answer}
+use Rattle.legs.specs.declared.Fraction.{Fraction}
+use Rattle.crossing.specs.Crossing.{Told, Denied, after-first, asked-crossing, cross-answer}
 use Rattle.questions.specs.Agings.{Book, new-book, fed-all, run, kept-at, mark-of, worth, AskedOf}
 
 -- What the crossing's answer on the aged record c says of the original, for one window from s to e and one box.

@@ -11,17 +11,17 @@ use borrow.Author.Tests.{ltb-true}
 use Rattle.distance.specs.Distance.{deviation, allowance}
 use Rattle.distance.specs.Box.{Box}
 use Rattle.distance.specs.Laws.All.{all-none, all-more}
-use Rattle.record.specs.Bytes.{number-at, bytes-of, signed, unsigned}
-use Rattle.record.specs.Format.{trail, never, mark-field, fix-at, each, fix-bytes, all-bytes, header-bytes, record-bytes}
+use Rattle.format.specs.Bytes.{number-at, bytes-of, signed, unsigned}
+use Rattle.format.specs.Format.{trail, never, mark-field, fix-at, each, fix-bytes, all-bytes, header-bytes, record-bytes}
 use Rattle.record.specs.Checks.{IsAccepted, sentence, first, some-outside, some-early-after, some-early, last-fix, of-ends}
 use Rattle.record.specs.Answers.{Answer, gives, turns-away}
-use Rattle.record.specs.Laws.Numbers.{false-true}
-use Rattle.record.specs.Laws.RoundTrip.{AreBytes}
+use Rattle.format.specs.Laws.Numbers.{false-true}
+use Rattle.format.specs.Laws.RoundTrip.{AreBytes}
 use Rattle.thinning.specs.Thinning.{sooner, furthest, every, but-last, last, thin-span, thin, thinning}
 use Rattle.thinning.specs.Aging.{Call, by-tolerance, by-days, new-mark, thinned-record, last-row}
-use Rattle.questions.specs.declared.Fraction.{Fraction}
-use Rattle.questions.specs.Legs.{first-crossing, first-from, leg-first, leg-times, axis-times, first-of, later-of, earlier-of}
-use Rattle.questions.specs.Crossing.{cross-answer}
+use Rattle.legs.specs.declared.Fraction.{Fraction}
+use Rattle.crossing.specs.Crossing.{first-crossing, first-from, cross-answer}
+use Rattle.legs.specs.Legs.{leg-first, leg-times, axis-times, first-of, later-of, earlier-of}
 use Rattle.questions.specs.Agings.{run}
 use Rattle.questions.specs.Claim.{Claim}
 use Rattle.questions.specs.Laws.Claim.{claim}

@@ -1,9 +1,4 @@
 -- What a reader must believe:
-pub mod Rounding
-pub mod Moment
-pub mod Crossing
-pub mod Legs
-pub mod Answers
 pub mod Agings
 pub mod Claim
 -- the worked trails, computed on those definitions:

@@ -13,18 +13,18 @@ use Rattle.distance.specs.Fix.{Fix}
 use Rattle.distance.specs.Distance.{deviation, allowance}
 use Rattle.distance.specs.Box.{Box}
 use Rattle.distance.specs.Place.{own}
-use Rattle.record.specs.Bytes.{number-at, bytes-of, signed, unsigned}
-use Rattle.record.specs.Format.{trail, never, mark-field, record-length, fixes, fix-at, each, fix-bytes, all-bytes, header-bytes, record-bytes}
+use Rattle.format.specs.Bytes.{number-at, bytes-of, signed, unsigned}
+use Rattle.format.specs.Format.{trail, never, mark-field, record-length, fixes, fix-at, each, fix-bytes, all-bytes, header-bytes, record-bytes}
 use Rattle.record.specs.Checks.{first, sentence, some-outside, some-early, some-early-after, of-ends, last-fix, read-refusal}
 use Rattle.record.specs.Answers.{Answer, gives, turns-away, answer}
-use Rattle.record.specs.Writing.{write-refusal, written}
+use Rattle.writing.specs.Writing.{write-refusal, written}
 use Rattle.thinning.specs.Thinning.{sooner, furthest, every, but-last, last, thin-span, thin, thinning}
 use Rattle.thinning.specs.Aging.{by-tolerance, left-by, answered, new-mark, thinned-record}
-use Rattle.questions.specs.declared.Fraction.{Fraction}
-use Rattle.questions.specs.Rounding.{floored, rounded}
-use Rattle.questions.specs.Moment.{Standing, on-leg, moment-from, at-moment, place-answer}
-use Rattle.questions.specs.Legs.{fraction, later-of, earlier-of, first-of, axis-times, leg-times, leg-first, first-from, first-crossing}
-use Rattle.questions.specs.Crossing.{cross-answer}
+use Rattle.legs.specs.declared.Fraction.{Fraction}
+use Rattle.moment.specs.Rounding.{floored, rounded}
+use Rattle.moment.specs.Moment.{Standing, on-leg, moment-from, at-moment, place-answer}
+use Rattle.legs.specs.Legs.{fraction, later-of, earlier-of, first-of, axis-times, leg-times, leg-first}
+use Rattle.crossing.specs.Crossing.{first-from, first-crossing, cross-answer}
 
 -- ---- WHAT A ROW ASKS of a trail
 pub data Question : Type 0 where

@@ -1,16 +1,16 @@
 // Lists of agings: the calls of a lent list, made one after the other on one lent buffer.
-use crate::Crossed;
-use crate::Edges;
-use crate::Window;
+use crossing::Crossed;
+use crossing::Edges;
+use crossing::Window;
 use distance::Tolerance;
 use thinning::Days;
 ghost use mathlib.Core.Path.{_≡_};
 ghost use Prim.Native.Nat.{_<_};
-ghost use Rattle.record.specs.Format.{trail, never, mark-field};
+ghost use Rattle.format.specs.Format.{trail, never, mark-field};
 ghost use Rattle.record.specs.Checks.{IsAccepted};
 ghost use Rattle.thinning.specs.Aging.{left-by};
-ghost use Rattle.questions.specs.Crossing.{cross-answer};
-ghost use Rattle.questions.specs.Answers.{crossed, boxOf};
+ghost use Rattle.crossing.specs.Crossing.{cross-answer};
+ghost use Rattle.crossing.specs.Answers.{crossed, boxOf};
 ghost use Rattle.questions.specs.Agings.{run, call-of, calls-of};
 ghost use Rattle.questions.specs.Claim.{Claim};
 
@@ -42,5 +42,5 @@ pub fn crosses_after(b: &mut [u8], calls: &[u32], w: Window, e: Edges) -> Crosse
     ensures { λ r. ⌜ (now (b .exit) ≡ run (now (b .entry)) (calls-of (now (calls .entry)))) × (crossed r ≡ cross-answer trail (now (b .exit)) (w .start .0) (w .end .0) (boxOf e)) × (IsAccepted trail (now (b .entry)) → mark-field (now (b .entry)) ≡ never → Claim (now (b .entry)) (calls-of (now (calls .entry)))) ⌝ }
 {
     call_all(b, calls);
-    crate::crosses(b, w, e)
+    crossing::crosses(b, w, e)
 }

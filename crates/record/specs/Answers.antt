@@ -3,8 +3,6 @@ use mathlib.Core.Option.{Option, some, none}
 use Prim.Native.Nat.{ℕ}
 use Rattle.distance.specs.Fix.{Fix, fixOf}
 use Rattle.record.specs.declared.Checked.{Checked}
-use Rattle.record.specs.declared.Written.{Written}
-use Rattle.record.specs.declared.Written.the-variants as Write
 use Rattle.record.specs.declared.Step.{Step}
 use Rattle.record.specs.declared.Step.the-variants.{Found, NoneLeft}
 use Rattle.record.specs.declared.Checked.the-variants.{Accepted, Refused}
@@ -32,8 +30,3 @@ refused (Refused k) = some k
 abbrev pub found : Step → Option Fix
 found (Found f) = some (fixOf f)
 found NoneLeft = none
-
--- What the writer answered: the record's length, or the refusal.
-abbrev pub wrote : Written → Answer ℕ
-wrote (Write.Length n) = gives n
-wrote (Write.Refused k) = turns-away k

@@ -12,7 +12,7 @@ use lib.Signed.{ltZ}
 use Rattle.distance.specs.Fix.{Fix}
 use Rattle.distance.specs.Distance.{seconds}
 use Rattle.distance.specs.Box.{Box}
-use Rattle.record.specs.Format.{Kind, never, length-field, kind-field, mark-field, count-field, record-length, fixes}
+use Rattle.format.specs.Format.{Kind, never, length-field, kind-field, mark-field, count-field, record-length, fixes}
 
 -- ---- what a call is handed beside the bytes. A call fills in what it takes; no check that it makes looks at the rest (`reading-alone` and the laws beside it
 -- in Laws/First.antt).

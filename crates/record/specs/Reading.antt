@@ -6,12 +6,8 @@ use Prim.Native.Nat.{ℕ, suc}
 use lib.Dec.{ltb, leb}
 use lib.ListN.{length}
 use Rattle.distance.specs.Fix.{Fix}
-use Rattle.record.specs.Format.{Kind, count-field, record-length, fix-at}
+use Rattle.format.specs.Format.{Kind, count-field, record-length, fix-at}
 use Rattle.record.specs.Checks.{read-refusal}
-
--- What a field of the head says; of bytes that are no whole head, 0.
-unfoldable pub of-head : (List ℕ → ℕ) → List ℕ → ℕ
-of-head field b = cond (ltb (length b) 10) 0 (field b)
 
 -- A fix stands at position k: the count says so, and the lent bytes hold it. Of an accepted record the first suffices (`yields-fix` of
 -- Laws/Accepted.antt); bytes or a position of somebody's own making are read no further than they go.

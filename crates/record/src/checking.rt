@@ -1,23 +1,22 @@
-// The checks: 1 to 6 of a record's head, 7 to 9 in one pass over its fixes, and those of the writer.
+// The checks: 1 to 6 of a record's head, and 7 to 9 in one pass over its fixes.
 ghost use mathlib.Core.Path.{_≡_};
 ghost use Prim.Native.Nat.{_+_, _*_, _-_, _≤_};
 ghost use mathlib.Core.List.{List, [], _∷_, _++_};
-ghost use mathlib.Core.Option.{none};
 ghost use lib.ListN.{length};
 ghost use Rattle.distance.specs.Fix.{Fix as Plain, fixOf};
-ghost use Rattle.record.specs.Format.{trail, fix-at, each};
-ghost use Rattle.record.specs.Checks.{Asked, sentence, first, asked-of, nothing, head-checks, fix-checks, read-refusal, refusal, writing, outside, fix-outside};
-ghost use Rattle.record.specs.Writing.{asked-to-write};
+ghost use Rattle.format.specs.Format.{trail, fix-at, each};
+ghost use Rattle.record.specs.Checks.{Asked, sentence, first, asked-of, nothing, head-checks, fix-checks, read-refusal, outside, fix-outside};
 ghost use Rattle.record.specs.Answers.{refused};
 ghost use Rattle.record.specs.Laws.Scan.{Scanned};
 use crate::Checked;
 use crate::Scan;
-use crate::count_at;
-use crate::fix_at;
-use crate::numbers::four_at;
-use crate::numbers::two_at;
 use distance::Centimetres;
 use distance::Fix;
+use format::count_at;
+use format::fix_at;
+use format::kind_at;
+use format::length_at;
+use format::mark_at;
 
 fn outside(c: Centimetres) -> bool
     ensures { λ r. ⌜ r ≡ outside 16000 (c .0) ⌝ }
@@ -32,7 +31,7 @@ fn fix_outside(f: Fix) -> bool
 }
 
 // The pass begins with the first fix ..
-pub(crate) fn scan_first(f: Fix) -> Scan
+pub fn scan_first(f: Fix) -> Scan
     ensures { λ r. ⌜ Scanned (fixOf f) [] r ⌝ }
 {
     let t = f.t;
@@ -45,7 +44,7 @@ pub(crate) fn scan_first(f: Fix) -> Scan
 }
 
 // .. goes on with each later one ..
-pub(crate) fn scan_next(s: Scan, f: Fix) -> Scan
+pub fn scan_next(s: Scan, f: Fix) -> Scan
     ensures { λ r. ⌜ ((a : Plain) (l : List Plain) → Scanned a l s → Scanned a (l ++ fixOf f ∷ []) r) ⌝ }
 {
     let t = f.t;
@@ -60,7 +59,7 @@ pub(crate) fn scan_next(s: Scan, f: Fix) -> Scan
 }
 
 // .. and says the first of checks 7 to 9 that turns the fixes away.
-pub(crate) fn scan_says(s: Scan) -> Checked
+pub fn scan_says(s: Scan) -> Checked
     ensures { λ r. ⌜ ((q : Asked) (a : Plain) (l : List Plain) → q .trail-fixes ≡ a ∷ l → Scanned a l s → refused r ≡ first (sentence trail q) fix-checks) ⌝ }
 {
     if s.outside {
@@ -85,24 +84,24 @@ fn head_says(b: &[u8]) -> Checked
     if lent < 10 {
         return Checked::Refused(1);
     }
-    if two_at(b, 4) != 1 {
+    if kind_at(b) != 1 {
         return Checked::Refused(2);
     }
-    let n = two_at(b, 8);
+    let n = count_at(b);
     if n == 0 {
         return Checked::Refused(3);
     }
     if 4096 < n {
         return Checked::Refused(3);
     }
-    let length = four_at(b, 0);
+    let length = length_at(b) as usize;
     if length != 10 + 8 * n {
         return Checked::Refused(4);
     }
-    if lent < length as usize {
+    if lent < length {
         return Checked::Refused(5);
     }
-    let mark = two_at(b, 6);
+    let mark = mark_at(b);
     if mark <= 32000 {
         return Checked::Accepted;
     }
@@ -134,27 +133,5 @@ pub fn check(b: &[u8]) -> Checked
     match h {
         Checked::Refused(k) => Checked::Refused(k),
         Checked::Accepted => scan_says(scan_all(b, count_at(b))),
-    }
-}
-
-// The writer's checks 3, 7, 8, 9 and 15, of a list of n fixes whose pass said `scanned` and an output of so many bytes.
-pub(crate) fn write_says(n: usize, scanned: Checked, output: usize) -> Checked
-    ensures { λ r. ⌜ ((l : List Plain) → length l ≡ n → refused scanned ≡ first (sentence trail (asked-to-write l output)) fix-checks → refused r ≡ refusal trail writing (asked-to-write l output)) × (refused r ≡ none → (n ≤ 4096) × (10 + 8 * n ≤ output)) ⌝ }
-{
-    if n == 0 {
-        return Checked::Refused(3);
-    }
-    if 4096 < n {
-        return Checked::Refused(3);
-    }
-    match scanned {
-        Checked::Refused(k) => Checked::Refused(k),
-        Checked::Accepted => {
-            if output < 10 + 8 * n {
-                Checked::Refused(15)
-            } else {
-                Checked::Accepted
-            }
-        },
     }
 }

@@ -1,13 +1,13 @@
 // The reader: a place in a record's bytes, from which its fixes are yielded in order.
 ghost use mathlib.Core.Path.{_≡_};
-ghost use Rattle.record.specs.Format.{trail};
+ghost use Rattle.format.specs.Format.{trail};
 ghost use Rattle.record.specs.Reading.{stands, yields, moves, begins, told-refusal};
 ghost use Rattle.record.specs.Answers.{refused, found};
 use crate::Checked;
 use crate::Step;
 use crate::check;
-use crate::count_at;
-use crate::fix_at;
+use format::count_at;
+use format::fix_at;
 
 // Whether a fix stands at position k of these bytes, whoever made them and the position.
 fn stands(b: &[u8], k: usize) -> bool

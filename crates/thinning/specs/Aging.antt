@@ -6,7 +6,7 @@ use Prim.Native.Nat.{ℕ, max}
 use lib.Dec.{leb, eqb}
 use lib.ListN.{length, drop}
 use lib.IntN.{pos}
-use Rattle.record.specs.Format.{trail, never, mark-field, record-length, fixes, record-bytes}
+use Rattle.format.specs.Format.{trail, never, mark-field, record-length, fixes, record-bytes}
 use Rattle.record.specs.Checks.{Given, nothing, asked-of, refusal, aging, aging-by-days}
 use Rattle.record.specs.Answers.{Answer, answer, unless}
 use Rattle.thinning.specs.Thinning.{thinning, thinned}

@@ -5,7 +5,7 @@ ghost use mathlib.Core.Path.{_≡_};
 ghost use Prim.Native.Nat.{_+_, _*_, _-_, _<_, _≤_};
 ghost use lib.ListN.{length};
 ghost use Rattle.distance.specs.Distance.{deviation, allowance};
-ghost use Rattle.record.specs.Format.{trail, fixes, fix-at, each};
+ghost use Rattle.format.specs.Format.{trail, fixes, fix-at, each};
 ghost use Rattle.record.specs.Checks.{IsAccepted};
 ghost use Rattle.thinning.specs.Marks.{Furthest, Marks, Cleared, Says};
 ghost use Rattle.thinning.specs.Spans.{Spans};
@@ -26,13 +26,13 @@ fn furthest(b: &[u8], lo: usize, hi: usize) -> Found
     requires { ⌜ (lo + 1 < hi) × (18 + 8 * hi ≤ length (now b)) × Spans (fix-at trail (now b)) (hi + 1) ⌝ }
     ensures { λ r. ⌜ Furthest (λ x. deviation (fix-at trail (now (b .entry)) lo) (fix-at trail (now (b .entry)) x) (fix-at trail (now (b .entry)) hi)) lo hi (r .at) (r .value) ⌝ }
 {
-    let i = record::fix_at(b, lo);
-    let j = record::fix_at(b, hi);
+    let i = format::fix_at(b, lo);
+    let j = format::fix_at(b, hi);
     let mut at = lo + 1;
-    let mut value = distance::deviation(i, record::fix_at(b, at), j);
+    let mut value = distance::deviation(i, format::fix_at(b, at), j);
     let mut k = lo + 2;
     while k < hi {
-        let v = distance::deviation(i, record::fix_at(b, k), j);
+        let v = distance::deviation(i, format::fix_at(b, k), j);
         if value < v {
             at = k;
             value = v;
@@ -47,8 +47,8 @@ fn limit(b: &[u8], lo: usize, hi: usize, e: Tolerance) -> u64
     requires { ⌜ (lo ≤ hi) × (18 + 8 * hi ≤ length (now b)) × Spans (fix-at trail (now b)) (hi + 1) ⌝ }
     ensures { λ r. ⌜ r ≡ allowance (e .0) (fix-at trail (now (b .entry)) lo) (fix-at trail (now (b .entry)) hi) ⌝ }
 {
-    let i = record::fix_at(b, lo);
-    let j = record::fix_at(b, hi);
+    let i = format::fix_at(b, lo);
+    let j = format::fix_at(b, hi);
     distance::allowance(e, i, j)
 }
 
@@ -82,8 +82,8 @@ fn pack(b: &mut [u8], keep: &[bool], n: usize) -> usize
     let mut i = 0;
     while i < n {
         if keep[i] {
-            let f = record::fix_at(b, i);
-            record::put_fix(b, 10 + 8 * w, f);
+            let f = format::fix_at(b, i);
+            format::put_fix(b, 10 + 8 * w, f);
             w += 1;
         }
         i += 1;
@@ -119,12 +119,12 @@ fn thin(b: &mut [u8], e: Tolerance) -> u32
     requires { ⌜ IsAccepted trail (now b) ⌝ }
     ensures { λ r. ⌜ (r ≡ (thinning (e .0) (fixes trail (now (b .entry)))) .count) × (now (b .exit) ≡ thinned-record (now (b .entry)) (e .0)) ⌝ }
 {
-    let n = record::count_at(b);
-    let mark = new_mark(record::mark_at(b), e);
+    let n = format::count_at(b);
+    let mark = new_mark(format::mark_at(b), e);
     let mut keep = [false; 4096];
     let count = mark_kept(b, &mut keep, n, e);
     let kept = pack(b, &keep, n);
-    record::put_head(b, kept as u32, mark);
+    format::put_head(b, kept as u32, mark);
     count
 }
 

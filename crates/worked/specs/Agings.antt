@@ -6,7 +6,7 @@ use native.Mathlib.Numerals.{add-one}
 use native.Mathlib.Omega.{arith}
 use lib.ListN.{length, drop, getD, drop-of-length-le}
 use lib.Seq.{drop-cons}
-use Rattle.record.specs.Format.{trail, fixes, mark-field}
+use Rattle.format.specs.Format.{trail, fixes, mark-field}
 use Rattle.record.specs.Answers.{Answer, gives, turns-away}
 use Rattle.thinning.specs.declared.Aged.{Aged}
 use Rattle.thinning.specs.declared.Aged.the-variants.{Count, Refused}

@@ -1,15 +1,13 @@
 // Document 01's trails worked by hand, run through the calls that a line control makes: each is written as a record, and what is asked of it is asked of
 // the record's bytes. One line a row, to be laid beside the paper's table. Nothing here knows what the answers should be; specs/Worked.antt of the
 // questions layer proves them of the definitions.
-mod say;
-
+use crossing::Edge;
+use crossing::Edges;
+use crossing::Window;
 use distance::Centimetres;
 use distance::Fix;
 use distance::Seconds;
 use distance::Tolerance;
-use questions::Edge;
-use questions::Edges;
-use questions::Window;
 use thinning::Aged;
 ghost use mathlib.Core.Path.{_≡_};
 ghost use Rattle.questions.specs.Worked.{aged-all};
@@ -20,7 +18,7 @@ ghost use Rattle.worked.specs.Agings.{leaving};
 // A trail that the writer turned away would leave zeros, which every call refuses.
 fn record_of(ts: &[u32], xs: &[i16], ys: &[i16]) -> [u8; 42] {
     let mut bytes = [0u8; 42];
-    record::write(ts, xs, ys, &mut bytes);
+    writing::write(ts, xs, ys, &mut bytes);
     bytes
 }
 
@@ -69,10 +67,10 @@ fn box_l() -> Edges {
 
 // The letter and the trail, which is read from its record.
 fn begin(letter: &[u8], b: &[u8]) {
-    say::word(letter);
-    say::word(b" | ");
-    say::trail(b);
-    say::word(b", ");
+    table::word(letter);
+    table::word(b" | ");
+    table::trail(b);
+    table::word(b", ");
 }
 
 // Agings one after the other, each on the buffer as the one before left it: the count of the last, or the first refusal.
@@ -99,23 +97,23 @@ fn age_all(b: &mut [u8], es: &[u16]) -> Aged
 fn aged(letter: &[u8], original: [u8; 42], es: &[u16]) {
     let mut left = original;
     begin(letter, &original);
-    say::tolerances(es);
-    say::word(b" | ");
+    table::tolerances(es);
+    table::word(b" | ");
     let a = age_all(&mut left, es);
     match a {
-        Aged::Refused(k) => say::refused(k),
-        Aged::Count(c) => say::kept(&original, &left, c),
+        Aged::Refused(k) => table::refused(k),
+        Aged::Count(c) => table::kept(&original, &left, c),
     }
-    say::word(b"\n");
+    table::word(b"\n");
 }
 
 fn placed(letter: &[u8], b: [u8; 42], second: u32, thousandths: u16) {
     begin(letter, &b);
-    say::word(b"moment ");
-    say::moment(second, thousandths);
-    say::word(b" | ");
-    say::placed(questions::place(&b, Seconds(second), thousandths));
-    say::word(b"\n");
+    table::word(b"moment ");
+    table::moment(second, thousandths);
+    table::word(b" | ");
+    table::placed(moment::place(&b, Seconds(second), thousandths));
+    table::word(b"\n");
 }
 
 // Whether trail l crosses its box in a window.
@@ -127,12 +125,12 @@ fn crossed(start: u32, end: u32) {
         end: Seconds(end),
     };
     begin(b"l", &b);
-    say::edges(edges);
-    say::word(b", ");
-    say::window(window);
-    say::word(b" | ");
-    say::crossed(questions::crosses(&b, window, edges));
-    say::word(b"\n");
+    table::edges(edges);
+    table::word(b", ");
+    table::window(window);
+    table::word(b" | ");
+    table::crossed(crossing::crosses(&b, window, edges));
+    table::word(b"\n");
 }
 
 // Two fixes of one place, so many seconds apart: what the writer says of them, and what the reader says of their record. A record that the writer turns away
@@ -144,14 +142,14 @@ fn apart(label: &[u8], seconds: u32) {
         x: Centimetres(0),
         y: Centimetres(0),
     };
-    record::put_fix(&mut bytes, 18, second);
+    format::put_fix(&mut bytes, 18, second);
     begin(label, &bytes);
-    say::word(b"writer and reader | ");
+    table::word(b"writer and reader | ");
     let mut output = [0u8; 42];
-    say::written(record::write(&[0, seconds], &[0, 0], &[0, 0], &mut output));
-    say::word(b" and ");
-    say::checked(record::check(&bytes));
-    say::word(b"\n");
+    table::written(writing::write(&[0, seconds], &[0, 0], &[0, 0], &mut output));
+    table::word(b" and ");
+    table::checked(record::check(&bytes));
+    table::word(b"\n");
 }
 
 // ---- the table, and the line below it
@@ -180,13 +178,13 @@ fn beside() {
 }
 
 fn main() {
-    say::word(b"Document 01, trails worked by hand: fixes (t,x,y), positions from 0.\n");
-    say::word(
+    table::word(b"Document 01, trails worked by hand: fixes (t,x,y), positions from 0.\n");
+    table::word(
         b"The count is the last aging's. A told time is in lowest terms, then as it was told.\n\n",
     );
     thinned();
     placed(b"k", trail_k(), 1, 0);
     crossed(0, 10);
-    say::word(b"\n");
+    table::word(b"\n");
     beside();
 }

@@ -1,5 +1,5 @@
 use mathlib.Core.Path.{sym, _∙_, ap}
-use Rattle.record.specs.Answers.{wrote}
+use Rattle.writing.specs.Answers.{wrote}
 use Rattle.export.specs.Interface.{answer}
 use borrow.Author.Needs.{needs}
 use Rattle.export.proofs.trails_write.Statement.{statement}

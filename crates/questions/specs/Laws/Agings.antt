@@ -15,11 +15,11 @@ use Rattle.distance.specs.Place.{Time, place, Near}
 use Rattle.distance.specs.Integers.Tests.{Test, holds, fails, test}
 use Rattle.distance.specs.Laws.All.{All, all-none, all-more}
 use Rattle.distance.specs.Laws.Near.{near-self}
-use Rattle.record.specs.Format.{trail, never, mark-field, count-field, length-field, fixes, fix-at}
+use Rattle.format.specs.Format.{trail, never, mark-field, count-field, length-field, fixes, fix-at}
 use Rattle.record.specs.Checks.{IsAccepted}
-use Rattle.record.specs.Laws.Each.{length-each}
+use Rattle.format.specs.Laws.Each.{length-each}
 use Rattle.record.specs.Laws.First.{some-none}
-use Rattle.record.specs.Laws.RoundTrip.{AreBytes}
+use Rattle.format.specs.Laws.RoundTrip.{AreBytes}
 use Rattle.record.specs.Laws.Accepted.{accepted-good}
 use Rattle.thinning.specs.Thinning.{thinned}
 use Rattle.thinning.specs.Aging.{Call, by-tolerance, by-days, left-by, applies, new-mark, record-at, thinned-record}

@@ -13,23 +13,22 @@ use Rattle.distance.specs.Place.{Proper, Time, From, Until, place, Near}
 use Rattle.distance.specs.Box.{Box, In, NearBox, NearSide}
 use Rattle.distance.specs.Laws.Box.{told, denied}
 use Rattle.distance.specs.Laws.Place.{place-proper}
-use Rattle.record.specs.Format.{trail, never, mark-field, count-field, fixes, fix-at}
-use Rattle.record.specs.Laws.Each.{length-each}
+use Rattle.format.specs.Format.{trail, never, mark-field, count-field, fixes, fix-at}
+use Rattle.format.specs.Laws.Each.{length-each}
 use Rattle.record.specs.Checks.{Asked, IsAccepted, bad-window, bad-box, sentence, asked-of, refusal, crossing, last-fix, of-ends, second-outside}
 use Rattle.record.specs.Answers.{gives, answer}
 use Rattle.record.specs.Laws.First.{first-exactly, NoneHolds, and-not, none-holds}
-use Rattle.record.specs.Laws.RoundTrip.{AreBytes}
+use Rattle.format.specs.Laws.RoundTrip.{AreBytes}
 use Rattle.record.specs.Laws.Accepted.{accepted-good, times-good}
 use Rattle.thinning.specs.Aging.{Call}
 use Rattle.thinning.specs.Laws.Trail.{SameEnds, no-fixes, same-ends, ends-stay, kept-rising}
-use Rattle.questions.specs.declared.Fraction.{Fraction}
-use Rattle.questions.specs.Crossing.{Told, Denied, Means, after-first, asked-crossing, cross-answer}
-use Rattle.questions.specs.Legs.{first-crossing}
+use Rattle.legs.specs.declared.Fraction.{Fraction}
+use Rattle.crossing.specs.Crossing.{Told, Denied, Means, after-first, asked-crossing, cross-answer, first-crossing}
 use Rattle.questions.specs.Agings.{new-book, run, kept-at, worth, AskedOf}
 use Rattle.questions.specs.Claim.{CrossingSays, says-refused, says-told, says-denied, book, Claim}
 use Rattle.questions.specs.Laws.Agings.{agings, kept-near, original-stays}
-use Rattle.questions.specs.Laws.Crossing.{GoodWindow}
-use Rattle.questions.specs.Laws.Checking.{window-good, two-left, answer-means}
+use Rattle.crossing.specs.Laws.Crossing.{GoodWindow}
+use Rattle.crossing.specs.Laws.Checking.{window-good, two-left, answer-means}
 
 -- ---- the kept trail begins and ends where the original does
 kept-ends : (E : Option ℕ) (l : List Fix) → SameEnds l (kept-at E l)

@@ -1,33 +1,28 @@
 -- What an accepted record gives, and when a record is accepted: its head, its mark, and its fixes.
 use mathlib.Core.Path.{_≡_, refl, sym, _∙_, ap}
 use mathlib.Core.Bool.{Bool, true, false, not, _&&_}
-use mathlib.Core.List.{List, [], _∷_, _++_}
+use mathlib.Core.List.{List, [], _∷_}
 use mathlib.Core.Option.{Option, some, none}
 use Prim.Native.Nat.{ℕ, zero, suc, _+_, _*_, _<_, _≤_}
 use native.Mathlib.Omega.{arith}
 use lib.Dec.{ltb, leb, eqb}
-use lib.ListN.{length, take, drop, length-append}
-use borrow.Author.Tests.{eqb-true, eqb-false, leb-false, le-leb, lt-leb, lt-ltb, not-false}
-use lib.IntN.{ℤ, pos, negsuc, negℤ}
-use mir.Syntax.{w16}
-use mir.Val.{SFits}
+use lib.ListN.{length, take}
+use borrow.Author.Tests.{eqb-true, leb-false, le-leb, lt-leb, lt-ltb, not-false}
+use lib.IntN.{pos, negℤ}
 use lib.Signed.{ltZ, _≤ℤ_}
 use Rattle.distance.specs.Fix.{Fix, Placed, After, none-after, later, Rising, no-fix, rising}
 use Rattle.distance.specs.Distance.{seconds}
 use Rattle.distance.specs.Laws.All.{All, all-none, all-more}
 use Rattle.distance.specs.Integers.Differences.{diffs}
 use Rattle.distance.specs.Integers.Order.{ltZ-false, le-of-ltZ}
-use Rattle.record.specs.Format.{trail, never, fix-at, record-bytes, length-field, mark-field, count-field, fixes}
-use Rattle.record.specs.Checks.{Asked, read-refusal, few-bytes, other-kind, bad-count, bad-length, short-record, bad-mark, short-output, sentence, first, head-checks, fix-checks, asked-of, nothing, refusal, writing, IsAccepted, outside, fix-outside, some-outside, some-early-after, some-early, last-fix, of-ends, too-long}
+use Rattle.format.specs.Format.{trail, fix-at, record-bytes, length-field, mark-field, count-field, fixes}
+use Rattle.record.specs.Checks.{Asked, read-refusal, few-bytes, other-kind, bad-count, bad-length, short-record, bad-mark, sentence, first, head-checks, fix-checks, asked-of, nothing, IsAccepted, outside, fix-outside, some-outside, some-early-after, some-early, last-fix, of-ends, too-long}
 use Rattle.record.specs.Laws.First.{passes, NoneHolds, no-check, and-not, none-holds, none-first, none-front, first-none}
-use Rattle.record.specs.Laws.Head.{Head, says, positive, neither, accepted-head, not-few, not-other, count-good, length-same, not-short, mark-low, mark-never, mark-says, from-2, from-3, from-4, from-5, from-6}
-use Rattle.record.specs.Laws.Numbers.{false-true}
-use Rattle.record.specs.Laws.RoundTrip.{Reads, InRange, AreBytes, number-below, read-record, rewrites}
+use Rattle.record.specs.Laws.Head.{Head, says, neither, accepted-head, not-few, not-other, count-good, length-same, not-short, mark-low, mark-never, mark-says, from-2, from-3, from-4, from-5, from-6}
+use Rattle.format.specs.Laws.Numbers.{false-true}
+use Rattle.format.specs.Laws.RoundTrip.{Reads, AreBytes, number-below, rewrites}
 use Rattle.record.specs.Reading.{yields, moves, begins, past-every-fix, told-refusal}
 use Rattle.record.specs.Laws.Reading.{stands-if, stands-past, yields-some, yields-none, moves-not, moves-to-next, tells-accepted, tells-refusal}
-use Rattle.record.specs.Writing.{asked-to-write, write-refusal, written, ReadsBack}
-use Rattle.record.specs.Laws.Writing.{writes-fit, length-record}
-use Rattle.record.specs.Laws.Scan.{Timed}
 use Rattle.distance.specs.Integers.Tests.{Test, holds, fails, test}
 
 -- ---- the fixes: checks 7 to 9 turn none away
@@ -150,35 +145,7 @@ span-good a l h =
     let g : seconds a b ≤ℤ pos 65535 = le-of-ltZ h in
     omega (arith, simp diffs at g)
 
--- ---- THE ROUND TRIP of the writer: what it puts down is accepted, and reads as the list that it was lent, marked never
-writes-good : (l : List Fix) (output : ℕ) → refusal trail writing (asked-to-write l output) ≡ none → (1 ≤ length l) × GoodFixes l
-unfolding sentence
-writes-good l output h = go (none-holds (sentence trail (asked-to-write l output)) (bad-count ∷ (fix-checks ++ short-output ∷ [])) h)
-  where
-    go : NoneHolds (sentence trail (asked-to-write l output)) (bad-count ∷ (fix-checks ++ short-output ∷ [])) → (1 ≤ length l) × GoodFixes l
-    go (and-not h3 (and-not h7 (and-not h8 (and-not h9 (and-not h15 no-check))))) =
-        (positive (length l) (eqb-false (length l) 0 (neither (eqb (length l) 0) (ltb 4096 (length l)) h3 .0)), record { inside = h7; ordered = h8; short = h9 })
-
--- a place within the limit and a time of 32 bits fit the bytes of a fix
-placed-fits : (z : ℤ) → negℤ (pos 16000) ≤ℤ z → z ≤ℤ pos 16000 → SFits w16 z
-placed-fits (pos n) low high = record { sfits = let h : n ≤ 16000 = omega (arith, simp diffs at high) in omega (arith, h) }
-placed-fits (negsuc n) low high = record { sfits = let h : n < 16000 = omega (arith, simp diffs at low) in omega (arith, h) }
-
-in-range : {l : List Fix} → All Timed l → All (Placed 16000) l → All InRange l
-in-range all-none all-none = all-none
-in-range (all-more {m = f} h hs) (all-more g gs) = all-more (record { t32 = h .t32; x16 = placed-fits (f .x) (g .x-low) (g .x-high); y16 = placed-fits (f .y) (g .y-low) (g .y-high) }) (in-range hs gs)
-
-pub writes-back : (l : List Fix) (out : List ℕ) → All Timed l → write-refusal trail l out ≡ none → ReadsBack trail l (written trail l out)
-writes-back l out h n =
-    let fit = writes-fit l (length out) n in
-    let good = writes-good l (length out) n in
-    let r = read-record 65535 l (drop (10 + 8 * length l) out) (omega arith) (fit .0) (in-range h (places-good 16000 l (good .1 .inside))) in
-    rw n (record { is-accepted = accept 65535 l _ r (never-applied refl) (good .0) (fit .0) (long l (drop (10 + 8 * length l) out)) (good .1); is-never = r .mark-reads; fixes-are = r .fixes-read })
-  where
-    long : (l : List Fix) (r : List ℕ) → 10 + 8 * length l ≤ length (record-bytes trail never l ++ r)
-    long l r = omega (arith, length-append (record-bytes trail never l) r, length-record never l)
-
--- and an accepted record, written again with its own mark, is its own bytes
+-- ---- an accepted record, written again with its own mark, is its own bytes
 pub rewritten : (b : List ℕ) → AreBytes b → IsAccepted trail b → record-bytes trail (mark-field b) (fixes trail b) ≡ take (length-field b) b
 rewritten b h a = let g = accepted-good b a .head in rewrites b h (g .length-is) (g .kind-is) (omega (arith, g .length-is, g .whole))
 

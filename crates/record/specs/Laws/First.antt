@@ -6,7 +6,7 @@ use mathlib.Core.List.{List, [], _∷_, _++_}
 use mathlib.Core.Option.{some, none}
 use Prim.Native.Nat.{ℕ}
 use native.Mathlib.Omega.{arith}
-use Rattle.record.specs.Format.{Kind}
+use Rattle.format.specs.Format.{Kind}
 use Rattle.record.specs.Checks.{Check, Given, Asked, number, first, FirstHolds, this, not-before, sentence, asked-of, refusal, reading, writing, aging, aging-by-days, placing, crossing, read-refusal}
 
 pub some-none : {k : ℕ} → some k ≡ none → ⊥

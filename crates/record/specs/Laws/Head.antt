@@ -8,7 +8,7 @@ use native.Mathlib.Omega.{arith}
 use lib.Dec.{ltb, eqb}
 use lib.ListN.{length}
 use borrow.Author.Tests.{lt-ltb, le-ltb, eq-eqb, ne-eqb, ltb-false, eqb-true, eqb-false, not-false}
-use Rattle.record.specs.Format.{trail, length-field, kind-field, mark-field, count-field}
+use Rattle.format.specs.Format.{trail, length-field, kind-field, mark-field, count-field}
 use Rattle.record.specs.Checks.{Check, few-bytes, other-kind, bad-count, bad-length, short-record, bad-mark, first, sentence, asked-of, nothing, head-checks, fix-checks, read-refusal}
 use Rattle.record.specs.Laws.First.{NoneHolds, no-check, and-not, none-holds, none-front}
 

@@ -9,9 +9,9 @@ use native.Mathlib.Omega.{arith}
 use lib.Dec.{ltb, leb}
 use lib.ListN.{length}
 use borrow.Author.Tests.{lt-ltb, le-ltb, lt-leb, le-leb, ltb-true, leb-true}
-use Rattle.record.specs.Format.{trail, count-field, fix-at}
+use Rattle.format.specs.Format.{trail, count-field, fix-at}
 use Rattle.record.specs.Checks.{read-refusal}
-use Rattle.record.specs.Reading.{of-head, stands, yields, moves, past-every-fix, position-for, begins, told-refusal}
+use Rattle.record.specs.Reading.{stands, yields, moves, past-every-fix, position-for, begins, told-refusal}
 
 and-false : (x : Bool) → x && false ≡ false
 and-false true = refl
@@ -20,15 +20,6 @@ and-false false = refl
 both : (x y : Bool) → x && y ≡ true → (x ≡ true) × (y ≡ true)
 both true y h = (refl, h)
 both false y h = absurd (let z : _≡_ {A = ℕ} 0 1 = cc in omega arith)
-
--- a field of the head, where there are 10 bytes and where not
-pub of-head-short : (field : List ℕ → ℕ) (b : List ℕ) → length b < 10 → of-head field b ≡ 0
-unfolding of-head
-of-head-short field b h = rw (lt-ltb (length b) 10 h) refl
-
-pub of-head-field : (field : List ℕ → ℕ) (b : List ℕ) → 10 ≤ length b → of-head field b ≡ field b
-unfolding of-head
-of-head-field field b h = rw (le-ltb (length b) 10 h) refl
 
 eight : (k : ℕ) → 10 + 8 * suc k ≡ 18 + 8 * k
 eight k = omega arith

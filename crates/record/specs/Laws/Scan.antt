@@ -14,9 +14,9 @@ use Rattle.distance.specs.Laws.All.{All, all-none, all-more, all-append}
 use Rattle.distance.specs.Integers.Differences.{diffs}
 use Rattle.distance.specs.Integers.Order.{ltZ-true, ltZ-false}
 use Rattle.record.specs.declared.Scan.{Scan}
-use Rattle.record.specs.Format.{trail, each}
+use Rattle.format.specs.Format.{trail, each}
 use Rattle.record.specs.Checks.{Asked, misplaced, unordered, long-span, first, sentence, fix-outside, some-outside, some-early-after, some-early, last-fix, of-ends, too-long, fix-checks}
-use Rattle.record.specs.Laws.Each.{each-more}
+use Rattle.format.specs.Laws.Each.{each-more}
 use Rattle.record.specs.Laws.First.{stops, passes}
 
 -- a time is of 32 bits, which the code's type keeps

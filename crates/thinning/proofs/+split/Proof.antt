@@ -1,11 +1,10 @@
 use Rattle.thinning.specs.Laws.Marks.{marks-small}
 use lib.ListN.{length-set}
 use Rattle.thinning.specs.Laws.Spans.{fewer}
-use Prim.Native.Nat.{_-_}
+use Prim.Native.Nat.{_-_, ℕ, _<_}
 use borrow.Author.Needs.{needs}
 use native.Mathlib.Omega.{arith}
 use Rattle.thinning.specs.Marks.{marks-none, marks-ends, marks-split}
-use Prim.Native.Nat.{ℕ, _<_}
 use borrow.Fn.Kinds.{In}
 use borrow.Fn.PlainCycle.{Measures, is, falls, and}
 use Rattle.thinning.proofs.split.Reads as split

@@ -1,7 +1,7 @@
 use mathlib.Core.Path.{_≡_, sym, _∙_, ap}
 use mathlib.Core.Option.{none}
 use denote.Ref.{now}
-use Rattle.record.specs.Format.{trail}
+use Rattle.format.specs.Format.{trail}
 use Rattle.record.specs.Checks.{read-refusal}
 use Rattle.record.specs.Answers.{refused, gives}
 use Rattle.thinning.specs.Laws.Aging.{days-refused, days-done}

@@ -4,7 +4,7 @@ use Prim.Native.Nat.{_-_, _≤_, _<_}
 use native.Mathlib.Omega.{arith}
 use borrow.Author.Needs.{needs}
 use Rattle.distance.specs.Distance.{deviation}
-use Rattle.record.specs.Format.{trail, fix-at}
+use Rattle.format.specs.Format.{trail, fix-at}
 use Rattle.thinning.specs.Marks.{Furthest}
 use Rattle.thinning.specs.Laws.Search.{furthest-one, furthest-new, furthest-stay}
 use Rattle.thinning.specs.Laws.Spans.{spanned, measured}

@@ -3,7 +3,7 @@ use native.Mathlib.Omega.{arith}
 use lib.ListN.{length-set}
 use denote.Ref.{now}
 use Rattle.distance.specs.Distance.{deviation, allowance}
-use Rattle.record.specs.Format.{trail, fix-at}
+use Rattle.format.specs.Format.{trail, fix-at}
 use Rattle.thinning.specs.Laws.Spans.{fewer}
 use Rattle.thinning.specs.Laws.Marks.{marks-length}
 use Rattle.thinning.specs.Laws.Aging.{marks-say}

@@ -6,7 +6,7 @@ use lib.ListN.{length}
 use lib.Seq.{length-sets}
 use borrow.Author.Needs.{needs}
 use Rattle.distance.specs.Fix.{fixOf}
-use Rattle.record.specs.Format.{trail, fix-bytes}
+use Rattle.format.specs.Format.{trail, fix-bytes}
 use Rattle.thinning.specs.Laws.Pack.{Packed, packed-none, packed-skip, packed-more}
 use Rattle.thinning.proofs.pack.Statement.{statement}
 use Rattle.thinning.proofs.pack.Tie as tie

@@ -4,7 +4,7 @@ use Prim.Native.Nat.{_+_, _*_, _≤_}
 use native.Mathlib.Omega.{arith}
 use lib.ListN.{length, length-replicate}
 use denote.Ref.{now}
-use Rattle.record.specs.Format.{count-field}
+use Rattle.format.specs.Format.{count-field}
 use Rattle.record.specs.Laws.Head.{Head}
 use Rattle.record.specs.Laws.Accepted.{accepted-good}
 use Rattle.thinning.specs.Laws.Spans.{accepted-spans}

@@ -10,10 +10,10 @@ use Rattle.distance.specs.Fix.{Fix}
 use lib.Seq.{sets}
 use borrow.Author.Tests.{lt-ltb, le-ltb, le-leb, lt-leb}
 use Rattle.distance.specs.Distance.{deviation, allowance}
-use Rattle.record.specs.Format.{trail, mark-field, count-field, fixes, fix-at, each, header-bytes}
+use Rattle.format.specs.Format.{trail, mark-field, count-field, fixes, fix-at, each, header-bytes}
 use Rattle.record.specs.Checks.{Check, high-tolerance, sentence, first, asked-of, reading, read-refusal, checks, IsAccepted}
 use Rattle.record.specs.Answers.{gives, turns-away}
-use Rattle.record.specs.Laws.Each.{length-each}
+use Rattle.format.specs.Laws.Each.{length-each}
 use Rattle.record.specs.Laws.First.{stops, passes, none-first, some-first, none-front, reading-alone}
 use Rattle.thinning.specs.Thinning.{Thinned, thinning}
 use Rattle.thinning.specs.Marks.{kept-by, Cleared, Says, Marks}

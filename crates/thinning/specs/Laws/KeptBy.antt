@@ -9,8 +9,8 @@ use native.Mathlib.Omega.{arith}
 use lib.ListN.{length, getD, set, length-set, replicate, length-replicate, getD-replicate, List·getD-eq-default}
 use lib.Seq.{getD-set-same, getD-set-other}
 use Rattle.distance.specs.Integers.Tests.{Test, holds, fails, test}
-use Rattle.record.specs.Format.{each}
-use Rattle.record.specs.Laws.Each.{length-each, each-more}
+use Rattle.format.specs.Format.{each}
+use Rattle.format.specs.Laws.Each.{length-each, each-more}
 use Rattle.thinning.specs.Marks.{kept-by, Cleared, Ready}
 use Rattle.distance.specs.Laws.All.{All, all-none, all-more}
 

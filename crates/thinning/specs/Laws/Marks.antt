@@ -9,8 +9,8 @@ use lib.ListN.{length, getD, length-set}
 use lib.Seq.{getD-set-same, getD-set-other}
 use Rattle.distance.specs.Fix.{Fix}
 use Rattle.distance.specs.Distance.{deviation, allowance}
-use Rattle.record.specs.Format.{each}
-use Rattle.record.specs.Laws.Each.{length-each}
+use Rattle.format.specs.Format.{each}
+use Rattle.format.specs.Laws.Each.{length-each}
 use Rattle.thinning.specs.Thinning.{thin, thinning}
 use Rattle.thinning.specs.Marks.{kept-by, Ready, Marks, marks-none, marks-ends, marks-split}
 use Rattle.distance.specs.Laws.All.{all-none}

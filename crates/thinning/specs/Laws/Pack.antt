@@ -7,9 +7,9 @@ use native.Mathlib.Omega.{arith}
 use lib.ListN.{length, getD, drop, set, length-append}
 use lib.Seq.{sets, set-comm}
 use Rattle.distance.specs.Fix.{Fix}
-use Rattle.record.specs.Format.{trail, each, fix-at, fix-bytes, all-bytes, header-bytes, record-bytes}
-use Rattle.record.specs.Laws.Stores.{sets-then, number-beyond}
-use Rattle.record.specs.Laws.Writing.{length-header, length-all-bytes, all-bytes-more, record-stores}
+use Rattle.format.specs.Format.{trail, each, fix-at, fix-bytes, all-bytes, header-bytes, record-bytes}
+use Rattle.format.specs.Laws.Stores.{sets-then, number-beyond}
+use Rattle.format.specs.Laws.Layout.{length-header, length-all-bytes, all-bytes-more, record-stores}
 use Rattle.thinning.specs.Marks.{kept-by}
 use Rattle.thinning.specs.Laws.KeptBy.{kept-by-more, kept-by-skip}
 

@@ -10,7 +10,7 @@ use Rattle.distance.specs.Fix.{Fix, Placed, After, later, Rising, rising}
 use Rattle.distance.specs.Distance.{deviation}
 use Rattle.distance.specs.Span.{Span}
 use Rattle.distance.specs.Laws.All.{All, all-more}
-use Rattle.record.specs.Format.{trail, count-field, fix-at, each}
+use Rattle.format.specs.Format.{trail, count-field, fix-at, each}
 use Rattle.record.specs.Checks.{IsAccepted, some-outside, some-early, last-fix, of-ends, too-long}
 use Rattle.record.specs.Laws.Accepted.{Good, accepted-good, places-good, times-good, span-good}
 use Rattle.thinning.specs.Spans.{Spans}

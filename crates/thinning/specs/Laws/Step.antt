@@ -14,12 +14,12 @@ use borrow.Author.Tests.{eq-eqb, ne-eqb, le-leb, lt-leb}
 use Rattle.distance.specs.Fix.{Fix}
 use Rattle.distance.specs.Laws.All.{All, all-none, all-more, all-append, all-drop}
 use Rattle.distance.specs.Integers.Tests.{Test, holds, fails, test}
-use Rattle.record.specs.Format.{trail, mark-field, count-field, fixes, fix-at, record-bytes}
+use Rattle.format.specs.Format.{trail, mark-field, count-field, fixes, fix-at, record-bytes}
 use Rattle.record.specs.Checks.{IsAccepted, too-long, of-ends}
 use Rattle.record.specs.Answers.{Answer, gives, turns-away}
-use Rattle.record.specs.Laws.Each.{length-each}
-use Rattle.record.specs.Laws.Writing.{length-record}
-use Rattle.record.specs.Laws.RoundTrip.{AreBytes, read-record, bytes-in-range, record-are-bytes}
+use Rattle.format.specs.Laws.Each.{length-each}
+use Rattle.format.specs.Laws.Layout.{length-record}
+use Rattle.format.specs.Laws.RoundTrip.{AreBytes, read-record, bytes-in-range, record-are-bytes}
 use Rattle.record.specs.Laws.Accepted.{GoodMark, applied, never-applied, GoodFixes, accepted-good, accept, places-good, good-places, times-good, good-times}
 use Rattle.thinning.specs.Thinning.{thinned}
 use Rattle.thinning.specs.Aging.{Call, by-tolerance, by-days, left-by, answered, age-answer, aged, aged-by-days, days-give, new-mark, thinned-record, Row, day-table, last-row, record-at, applies}

@@ -1,5 +1,5 @@
 use mathlib.Core.Path.{sym, ap}
-use Rattle.questions.specs.Answers.{crossed}
+use Rattle.crossing.specs.Answers.{crossed}
 use Rattle.export.specs.Interface.{crossing}
 use borrow.Author.Needs.{needs}
 use Rattle.export.proofs.questions_of.crossing_of.Statement.{statement}

@@ -1,7 +1,7 @@
 use mir.Syntax.{w32, w64}
 use mir.Facts.{toZ-ofZ}
 use mathlib.Core.Path.{sym, _∙_, ap}
-use Rattle.questions.specs.Answers.{placed}
+use Rattle.moment.specs.Answers.{placed}
 use Rattle.export.specs.Interface.{spot}
 use Rattle.export.specs.Laws.{spot-at}
 use borrow.Author.Needs.{needs}

@@ -1,6 +1,6 @@
 use denote.Ref.{now}
 use borrow.Author.Needs.{needs}
-use Rattle.record.specs.Laws.RoundTrip.{are-bytes}
+use Rattle.format.specs.Laws.RoundTrip.{are-bytes}
 use Rattle.questions.specs.Agings.{calls-of}
 use Rattle.questions.specs.Laws.Claim.{claim}
 use Rattle.questions.proofs.agings.crosses_after.Statement.{statement}

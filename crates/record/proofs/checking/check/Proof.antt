@@ -2,10 +2,10 @@ use mathlib.Core.Path.{_≡_, sym, _∙_, ap}
 use mathlib.Core.Option.{none}
 use native.Mathlib.Omega.{arith}
 use denote.Ref.{now}
-use Rattle.record.specs.Format.{trail, count-field, fix-at}
+use Rattle.format.specs.Format.{trail, count-field, fix-at}
 use Rattle.record.specs.Checks.{first, head-checks, fix-checks, asked-of, nothing}
 use Rattle.record.specs.Answers.{refused}
-use Rattle.record.specs.Laws.Each.{each-first}
+use Rattle.format.specs.Laws.Each.{each-first}
 use Rattle.record.specs.Laws.First.{none-first, some-first}
 use Rattle.record.specs.Laws.Head.{says, head-passed}
 use borrow.Author.Needs.{needs}

@@ -22,12 +22,12 @@ left-1 c =
 left-2 : (c : tie.Else2) → first (says (bytes (c .before .before .before .before))) head-checks ≡ first (says (bytes (c .before .before .before .before))) from-3
 left-2 c =
     let b = bytes (c .before .before .before .before) in
-    left-1 (c .before .before) ∙ passes (says b) other-kind from-3 (not-other b (sym (c .before .two-at .ensures .0) ∙ c .if2 .left))
+    left-1 (c .before .before) ∙ passes (says b) other-kind from-3 (not-other b (sym (c .before .kind-at .ensures) ∙ c .if2 .left))
 
 left-3 : (c : tie.Else4) → first (says (bytes (c .before .before .before .before .before .before .before))) head-checks ≡ first (says (bytes (c .before .before .before .before .before .before .before))) from-4
 left-3 c =
     let b = bytes (c .before .before .before .before .before .before .before) in
-    let e = c .before .before .two-at2 .ensures .0 in
+    let e = c .before .before .count-at .ensures .0 in
     left-2 (c .before .before .before) ∙ passes (says b) bad-count from-4 (count-good b (λ z. c .before .if3 .left (e ∙ z)) (omega arith))
 
 left-4 : (c : tie.Else5) → first (says (bytes (c .before .before .before .before .before .before .before .before .before))) head-checks ≡ first (says (bytes (c .before .before .before .before .before .before .before .before .before))) from-5
@@ -45,29 +45,32 @@ returns c =
     let b = bytes (c .before .before) in
     sym (stops (says b) few-bytes _ (few b (c .if1 .taken)))
 
-two-at-requires : tie.Need-two-at-requires
-two-at-requires c κs = search needs
+kind-at-requires : tie.Need-kind-at-requires
+kind-at-requires c κs = search needs
 
 returns-2 : tie.Need-returns-2
 returns-2 c =
     let b = bytes (c .before .before .before .before) in
-    sym (left-1 (c .before .before) ∙ stops (says b) other-kind _ (other b (λ z. c .if2 .taken (c .before .two-at .ensures .0 ∙ z))))
+    sym (left-1 (c .before .before) ∙ stops (says b) other-kind _ (other b (λ z. c .if2 .taken (c .before .kind-at .ensures ∙ z))))
 
-two-at-requires-2 : tie.Need-two-at-requires-2
-two-at-requires-2 c κs = search needs
+count-at-requires : tie.Need-count-at-requires
+count-at-requires c κs = search needs
 
 returns-3 : tie.Need-returns-3
 returns-3 c =
     let b = bytes (c .before .before .before .before .before .before) in
-    sym (left-2 (c .before .before) ∙ stops (says b) bad-count _ (count-zero b (sym (c .before .two-at2 .ensures .0) ∙ c .if3 .taken)))
+    sym (left-2 (c .before .before) ∙ stops (says b) bad-count _ (count-zero b (sym (c .before .count-at .ensures .0) ∙ c .if3 .taken)))
 
 returns-4 : tie.Need-returns-4
 returns-4 c =
     let b = bytes (c .before .before .before .before .before .before .before) in
-    sym (left-2 (c .before .before .before) ∙ stops (says b) bad-count _ (count-high b (omega (arith, c .before .before .two-at2 .ensures .0))))
+    sym (left-2 (c .before .before .before) ∙ stops (says b) bad-count _ (count-high b (omega (arith, c .before .before .count-at .ensures .0))))
 
-four-at-requires : tie.Need-four-at-requires
-four-at-requires c κs = search needs
+length-at-requires : tie.Need-length-at-requires
+length-at-requires c κs = search needs
+
+cast-length : tie.Need-cast-length
+cast-length c = search needs
 
 mul-if5 : tie.Need-mul-if5
 mul-if5 c = search needs
@@ -80,16 +83,13 @@ returns-5 c =
     let b = bytes (c .before .before .before .before .before .before .before .before .before) in
     sym (left-3 (c .before .before) ∙ stops (says b) bad-length _ (length-other b (λ z. c .if5 .taken (omega arith))))
 
-cast-if6 : tie.Need-cast-if6
-cast-if6 c = search needs
-
 returns-6 : tie.Need-returns-6
 returns-6 c =
     let b = bytes (c .before .before .before .before .before .before .before .before .before .before) in
     sym (left-4 (c .before) ∙ stops (says b) short-record _ (short b (omega arith)))
 
-two-at-requires-3 : tie.Need-two-at-requires-3
-two-at-requires-3 c κs = search needs
+mark-at-requires : tie.Need-mark-at-requires
+mark-at-requires c κs = search needs
 
 returns-7 : tie.Need-returns-7
 unfolding first
@@ -113,18 +113,18 @@ head-says-spec =
     tie.close
     (tie.spec
     returns
-    two-at-requires
+    kind-at-requires
     returns-2
-    two-at-requires-2
+    count-at-requires
     returns-3
     returns-4
-    four-at-requires
+    length-at-requires
+    cast-length
     mul-if5
     add-if5
     returns-5
-    cast-if6
     returns-6
-    two-at-requires-3
+    mark-at-requires
     returns-7
     returns-8
     returns-9)

@@ -2,7 +2,7 @@ use Prim.Native.Nat.{_-_, _≤_}
 use mathlib.Core.Path.{_≡_}
 use native.Mathlib.Omega.{arith}
 use borrow.Author.Needs.{needs}
-use Rattle.record.specs.Format.{trail, fix-at, each}
+use Rattle.format.specs.Format.{trail, fix-at, each}
 use Rattle.record.specs.Laws.Scan.{Scanned, scanned-start, scanned-step}
 use Rattle.record.proofs.checking.scan_all.Statement.{statement}
 use Rattle.record.proofs.checking.scan_all.Tie as tie

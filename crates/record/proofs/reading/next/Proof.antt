@@ -48,7 +48,7 @@ use denote.Triple.Spec.{Meets, tripleOf}
 use denote.Triple.Table.{entered, cited}
 use denote.Triple.Walked.{says, Stays, stay-ref, walkOf, goes-ref, Walks, ends-at, walked, walk-meets}
 use denote.Triple.Clauses.{ensured, lasts}
-use Rattle.record.specs.Format.{trail}
+use Rattle.format.specs.Format.{trail}
 use Rattle.record.specs.Reading.{yields, moves}
 use Rattle.record.specs.Answers.{found}
 use Rattle.record.specs.declared.reading.Reader.{Reader}

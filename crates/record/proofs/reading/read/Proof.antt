@@ -37,7 +37,7 @@ use denote.Triple.Spec.{Meets, tripleOf}
 use denote.Triple.Table.{entered, cited}
 use denote.Triple.Walked.{says, Stays, stay-none-slice, walkOf, goes-none-slice, Walks, ends-at, walked, walk-meets}
 use denote.Exit.{yes}
-use Rattle.record.specs.Format.{trail}
+use Rattle.format.specs.Format.{trail}
 use Rattle.record.specs.Reading.{begins}
 use Rattle.record.specs.declared.reading.Reader.{Reader}
 use Rattle.record.proofs.reading.Reader as T

@@ -42,7 +42,7 @@ use denote.Triple.Table.{entered, cited}
 use denote.Triple.Walked.{says, Stays, stay-none, walkOf, goes-none, Walks, ends-at, walked, walk-meets}
 use denote.Exit.{yes}
 use denote.Triple.Clauses.{ensured, lasts}
-use Rattle.record.specs.Format.{trail}
+use Rattle.format.specs.Format.{trail}
 use Rattle.record.specs.Reading.{told-refusal}
 use Rattle.record.specs.Answers.{refused}
 use Rattle.record.specs.declared.reading.Reader.{Reader}

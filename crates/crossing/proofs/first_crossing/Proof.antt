@@ -1,0 +1,70 @@
+use mathlib.Core.Path.{sym, _∙_, ap}
+use Prim.Native.Nat.{_-_}
+use native.Mathlib.Omega.{arith}
+use Rattle.legs.specs.Answers.{found}
+use Rattle.record.specs.Laws.Trail.{lent}
+use Rattle.crossing.specs.Laws.Search.{Seek, first-reach, seek-start, seek-reach, seek-rises, seek-found, seek-next, seek-end}
+use borrow.Author.Needs.{needs}
+use Rattle.crossing.proofs.first_crossing.Statement.{statement}
+use Rattle.crossing.proofs.first_crossing.Tie as tie
+
+abbrev Inv-loop : tie.InvT-loop
+Inv-loop b n f zero opens closes a₀ k₀ a k = Seek b n (zero .0) f (opens .0) (closes .0) a k
+
+abbrev μ-loop : tie.MeasureT-loop
+μ-loop b n f zero opens closes a₀ k₀ a k = n - k
+
+raised-at-requires : tie.Need-raised-at-requires Inv-loop μ-loop
+raised-at-requires c κs = let l = lent (c .before .pre .is-accepted) (c .before .pre .count) in (omega (arith, l .whole, l .some), first-reach (c .before .pre))
+
+loop-holds : tie.Need-loop-holds Inv-loop μ-loop
+loop-holds c = seek-start _ _ _ (c .before .before .pre) (c .raised-at .ensures)
+
+raised-at-requires-2 : tie.Need-raised-at-requires-2 Inv-loop μ-loop
+raised-at-requires-2 c κs = let l = lent (c .before .before .before .before .pre .is-accepted) (c .before .before .before .before .pre .count) in (omega (arith, l .whole, c .loop-test .taken), seek-reach (c .before .loop .inv) (c .loop-test .taken))
+
+leg-first-requires : tie.Need-leg-first-requires Inv-loop μ-loop
+leg-first-requires c κs = seek-rises (c .before .before .loop .inv) (c .before .loop-test .taken) (c .raised-at2 .ensures)
+
+enum-known-r : tie.Need-enum-known-r Inv-loop μ-loop
+enum-known-r c = search needs
+
+returns : tie.Need-returns Inv-loop μ-loop
+returns c = sym (seek-found (c .before .before .before .before .before .before .loop .inv) (c .before .before .before .before .before .loop-test .taken) (c .before .before .before .before .raised-at2 .ensures) _ (sym (c .before .before .before .leg-first .ensures) ∙ ap found (c .before .r .given .1)))
+
+enum-told : tie.Need-enum-told Inv-loop μ-loop
+enum-told c = search needs
+
+add-k : tie.Need-add-k Inv-loop μ-loop
+add-k c = search needs
+
+loop-less : tie.Need-loop-less Inv-loop μ-loop
+loop-less c = search needs
+
+loop-again : tie.Need-loop-again Inv-loop μ-loop
+loop-again c = seek-next (c .before .before .before .before .before .loop .inv) (c .before .before .before .before .loop-test .taken) (c .before .before .before .raised-at2 .ensures) (sym (c .before .before .leg-first .ensures) ∙ ap found (c .enum-told .given .1))
+
+leg-first-requires-2 : tie.Need-leg-first-requires-2 Inv-loop μ-loop
+leg-first-requires-2 c κs = search needs
+
+returns-2 : tie.Need-returns-2 Inv-loop μ-loop
+returns-2 c = c .leg-first2 .ensures ∙ sym (seek-end (c .before .before .loop .inv) (c .before .loop-test .left))
+
+pub first-crossing-spec : {M : Type 1} → statement M
+first-crossing-spec =
+    tie.close
+    (tie.spec
+    Inv-loop
+    μ-loop
+    raised-at-requires
+    loop-holds
+    raised-at-requires-2
+    leg-first-requires
+    enum-known-r
+    returns
+    enum-told
+    add-k
+    loop-less
+    loop-again
+    leg-first-requires-2
+    returns-2)

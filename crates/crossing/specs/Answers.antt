@@ -1,0 +1,17 @@
+-- What the enums of the code say, as the paper's numbers and values.
+use mathlib.Core.Option.{Option, some, none}
+use Rattle.record.specs.Answers.{Answer, gives, turns-away}
+use Rattle.legs.specs.declared.Fraction.{Fraction}
+use Rattle.crossing.specs.declared.Crossed.{Crossed}
+use Rattle.crossing.specs.declared.Crossed.the-variants as Cross
+use Rattle.crossing.specs.declared.Edges.{Edges}
+use Rattle.distance.specs.Box.{Box}
+
+-- Yes with its time, no, or the refusal.
+abbrev pub crossed : Crossed → Answer (Option Fraction)
+crossed (Cross.Told n d) = gives (some (record { num = n; den = d }))
+crossed Cross.Denied = gives none
+crossed (Cross.Refused k) = turns-away k
+
+abbrev pub boxOf : Edges → Box
+boxOf e = record { x-low = e .left .0; x-high = e .right .0; y-low = e .bottom .0; y-high = e .top .0 }

@@ -1,0 +1,76 @@
+-- CROSSING A BOX. Document 01: "The intersect question, for a box with its edges included and a window of whole seconds (32 bits, on the fixes' own
+-- clock), both ends included. Yes exactly if at some fractional time of the window the interpolated place is in the box. Yes carries the earliest such
+-- time, in seconds after the first fix, as a fraction. Its value is fixed; its form is free, with a denominator from 1 to 32,000. No carries nothing."
+use mathlib.Core.List.{List, [], _∷_}
+use mathlib.Core.Option.{Option, some, none}
+use Prim.Native.Nat.{ℕ, _+_, _*_, _≤_, _-_}
+use Rattle.distance.specs.Fix.{Fix}
+use Rattle.distance.specs.Place.{Time, From, Until, place}
+use Rattle.distance.specs.Box.{Box, In}
+use Rattle.format.specs.Format.{Kind, fixes}
+use Rattle.record.specs.Checks.{Given, asked-of, nothing, refusal, crossing}
+use Rattle.record.specs.Answers.{Answer, answer}
+use Rattle.legs.specs.declared.Fraction.{Fraction}
+use Rattle.legs.specs.Legs.{raised, framed, leg-first}
+use Rattle.legs.specs.declared.Frame.{Frame}
+
+-- ---- what the question means
+-- The fractional time u is of the window from s to e, and the trail's place then is in the box.
+pub record Crosses (l : List Fix) (box : Box) (s e : ℕ) (u : Time) : Type 0 where
+  pub opened : From s u
+  pub closed : Until e u
+  pub inside : In box (place l u)
+
+abbrev pub first-time : List Fix → ℕ
+first-time [] = 0
+first-time (a ∷ l) = a .t
+
+-- The time n/d seconds after the first fix.
+abbrev pub after-first : List Fix → (n d : ℕ) → 1 ≤ d → Time
+after-first l n d h = record { p = d * first-time l + n; q = d; whole = h }
+
+-- Yes: n/d seconds after the first fix it crosses, and no time of the window that is earlier does.
+pub record Told (l : List Fix) (box : Box) (s e n d : ℕ) : Type 0 where
+  pub some-denominator : 1 ≤ d
+  pub small-denominator : d ≤ 32000
+  pub crosses : Crosses l box s e (after-first l n d some-denominator)
+  pub earliest : (u : Time) → Crosses l box s e u → (d * first-time l + n) * u .q ≤ u .p * d
+
+-- No: no time of the window does.
+abbrev pub Denied : List Fix → Box → (s e : ℕ) → Type 0
+Denied l box s e = (u : Time) → Crosses l box s e u → ⊥
+
+-- What yes with a time means, and what no means. (`crossing-means` of Laws/Crossing.antt: what `first-crossing` of Legs.antt computes means it.)
+abbrev pub Means : List Fix → Box → (s e : ℕ) → Option Fraction → Type 0
+Means l box s e (some f) = Told l box s e (f .num) (f .den)
+Means l box s e none = Denied l box s e
+
+-- ---- a trail: the first leg that crosses. The last fix, or a lone one, is a leg of no seconds from itself to itself.
+abbrev pub or-else : Option Fraction → Option Fraction → Option Fraction
+or-else (some f) r = some f
+or-else none r = r
+
+unfoldable pub first-from : (limit zero : ℕ) → Fix → List Fix → Frame → (w v : ℕ) → Option Fraction
+first-from limit zero a [] f w v = leg-first (raised limit zero a) (raised limit zero a) f w v
+first-from limit zero a (b ∷ l) f w v = or-else (leg-first (raised limit zero a) (raised limit zero b) f w v) (first-from limit zero b l f w v)
+
+-- The first crossing of a trail, in seconds after its first fix.
+unfoldable pub first-crossing : (limit : ℕ) → List Fix → Box → (s e : ℕ) → Option Fraction
+first-crossing limit [] box s e = none
+first-crossing limit (a ∷ l) box s e = first-from limit (a .t) a l (framed limit box) (s - a .t) (e - a .t)
+
+-- ---- THE ANSWER: the form of the fraction is the one that `first-crossing` computes.
+abbrev pub asked-crossing : (s e : ℕ) → Box → Given
+asked-crossing s e box = record {
+  tolerance = nothing .tolerance;
+  second = nothing .second;
+  thousandths = nothing .thousandths;
+  start = s;
+  end = e;
+  box = box;
+  output = nothing .output;
+}
+
+-- On lent bytes: "the crossing 1 to 9, 13, 14".
+abbrev pub cross-answer : Kind → List ℕ → (s e : ℕ) → Box → Answer (Option Fraction)
+cross-answer K b s e box = answer (refusal K crossing (asked-of K b (asked-crossing s e box))) (first-crossing (K .limit) (fixes K b) box s e)

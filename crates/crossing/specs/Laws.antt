@@ -1,0 +1,5 @@
+-- What is proved of the definitions, each law once.
+pub mod Crossing
+pub mod Moved
+pub mod Search
+pub mod Checking

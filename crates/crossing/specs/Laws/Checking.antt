@@ -1,0 +1,124 @@
+-- The crossing's checks 1 to 9, 13 and 14, and what it gives when none of them turns the call away.
+use mathlib.Core.Path.{_≡_, refl, sym, _∙_, ap}
+use mathlib.Core.Bool.{Bool, true, false, _||_}
+use mathlib.Core.List.{List, [], _∷_, _++_}
+use mathlib.Core.Option.{Option, some, none}
+use Prim.Native.Nat.{ℕ, _-_, _≤_}
+use native.Mathlib.Omega.{arith}
+use lib.Dec.{ltb}
+use lib.IntN.{ℤ, pos, negℤ}
+use lib.Signed.{ltZ}
+use borrow.Author.Tests.{ltb-false}
+use Rattle.distance.specs.Fix.{Fix}
+use Rattle.distance.specs.Box.{Box}
+use Rattle.distance.specs.Integers.Order.{le-of-ltZ}
+use Rattle.format.specs.Format.{trail, fix-at, count-field, fixes}
+use Rattle.record.specs.Checks.{Check, bad-window, bad-box, first, sentence, asked-of, head-checks, fix-checks, read-refusal, IsAccepted, refusal, crossing, outside, second-outside, last-fix}
+use Rattle.record.specs.Answers.{gives, turns-away, answer}
+use Rattle.record.specs.Laws.First.{stops, passes, first-none, some-first, none-first, none-front, none-holds, NoneHolds, no-check, and-not, reading-alone}
+use Rattle.record.specs.Laws.Head.{neither}
+use Rattle.record.specs.Laws.Accepted.{accepted-good}
+use Rattle.legs.specs.declared.Fraction.{Fraction}
+use Rattle.legs.specs.Legs.{framed}
+use Rattle.crossing.specs.Crossing.{first-from, first-crossing, asked-crossing, cross-answer, Means}
+use Rattle.record.specs.Laws.Trail.{from, fixes-from, ends-are, last-is, accepted-checked}
+use Rattle.legs.specs.Laws.Legs.{InLimit, BoxInLimit}
+use Rattle.crossing.specs.Laws.Search.{window-outside, edges-outside}
+use Rattle.crossing.specs.Laws.Crossing.{GoodWindow, crossing-means}
+
+-- ---- what a window and a box that pass have
+pub window-good : (s e f l : ℕ) → window-outside s e f l ≡ false → GoodWindow s e f l
+window-good s e f l h =
+    let a = neither (ltb e s) ((ltb s f || ltb l s) || (ltb e f || ltb l e)) h in
+    let b = neither (ltb s f || ltb l s) (ltb e f || ltb l e) (a .1) in
+    let c = neither (ltb s f) (ltb l s) (b .0) in
+    let d = neither (ltb e f) (ltb l e) (b .1) in
+    record { from = ltb-false s f (c .0); order = ltb-false e s (a .0); to = ltb-false l e (d .1) }
+
+edge-good : (z : ℤ) → outside 16000 z ≡ false → InLimit z
+edge-good z h = let n = neither (ltZ z (negℤ (pos 16000))) (ltZ (pos 16000) z) h in record { low = le-of-ltZ (n .0); high = le-of-ltZ (n .1) }
+
+pub box-good : (b : Box) → edges-outside b ≡ false → BoxInLimit b
+box-good b h =
+    let i = neither (outside 16000 (b .x-low)) _ h in
+    let j = neither (outside 16000 (b .x-high)) _ (i .1) in
+    let k = neither (outside 16000 (b .y-low)) _ (j .1) in
+    let l = neither (outside 16000 (b .y-high)) _ (k .1) in
+    record { x-low = edge-good (b .x-low) (i .0); x-high = edge-good (b .x-high) (j .0); y-low = edge-good (b .y-low) (k .0); y-high = edge-good (b .y-high) (l .0) }
+
+module _ (b : List ℕ) (s e : ℕ) (box : Box) where
+  abbrev asks : Check → Bool
+  asks = sentence trail (asked-of trail b (asked-crossing s e box))
+
+  abbrev own-checks : List Check
+  own-checks = bad-window ∷ bad-box ∷ []
+
+  -- one of checks 1 to 9 turns the bytes away
+  pub cross-refused : (k : ℕ) → read-refusal trail b ≡ some k → cross-answer trail b s e box ≡ turns-away k
+  cross-refused k h = rw (some-first asks (head-checks ++ fix-checks) own-checks k (reading-alone trail b (asked-crossing s e box) ∙ h)) refl
+
+  module _ (accepted : IsAccepted trail b) where
+    -- an accepted record leaves checks 13 and 14
+    pub two-left : first asks ((head-checks ++ fix-checks) ++ own-checks) ≡ first asks own-checks
+    two-left = none-first asks (head-checks ++ fix-checks) own-checks (reading-alone trail b (asked-crossing s e box) ∙ accepted .accepted)
+
+    abbrev start : ℕ
+    start = (fix-at trail b 0) .t
+
+    abbrev end : ℕ
+    end = (fix-at trail b (count-field b - 1)) .t
+
+    some-fix : 1 ≤ count-field b
+    some-fix = accepted-good b accepted .head .some-fix
+
+    window-says : asks bad-window ≡ window-outside s e start end
+    unfolding sentence
+    window-says = rw (ends-are b (second-outside s) some-fix, ends-are b (second-outside e) some-fix) refl
+
+    box-says : asks bad-box ≡ edges-outside box
+    unfolding sentence
+    box-says = refl
+
+    pub cross-13 : window-outside s e start end ≡ true → cross-answer trail b s e box ≡ turns-away 13
+    cross-13 h = rw (two-left, stops asks bad-window (bad-box ∷ []) (window-says ∙ h)) refl
+
+    pub cross-14 : window-outside s e start end ≡ false → edges-outside box ≡ true → cross-answer trail b s e box ≡ turns-away 14
+    cross-14 h k = rw (two-left, passes asks bad-window (bad-box ∷ []) (window-says ∙ h), stops asks bad-box [] (box-says ∙ k)) refl
+
+    -- what the search computes is the definition
+    crossing-is : first-crossing 16000 (fixes trail b) box s e ≡ first-from 16000 start (fix-at trail b 0) (from b 1 (count-field b)) (framed 16000 box) (s - start) (e - start)
+    unfolding first-crossing
+    crossing-is = rw (fixes-from b some-fix) refl
+
+    pub cross-gives : window-outside s e start end ≡ false → edges-outside box ≡ false
+        → cross-answer trail b s e box ≡ gives (first-from 16000 start (fix-at trail b 0) (from b 1 (count-field b)) (framed 16000 box) (s - start) (e - start))
+    cross-gives h k = rw (two-left, passes asks bad-window (bad-box ∷ []) (window-says ∙ h), passes asks bad-box [] (box-says ∙ k), first-none asks, crossing-is) refl
+
+    -- and means what the question means
+    pub accepted-means : window-outside s e start end ≡ false → edges-outside box ≡ false → Means (fixes trail b) box s e (first-crossing 16000 (fixes trail b) box s e)
+    accepted-means h k =
+        let w = window-good s e start end h in
+        let l : end ≡ (last-fix (fix-at trail b 0) (from b 1 (count-field b))) .t = ap (λ (f : Fix). f .t) (sym (last-is b (count-field b))) in
+        rw (fixes-from b some-fix) (crossing-means _ _ box s e (accepted-checked b accepted) (box-good box k) (record { from = w .from; order = w .order; to = omega (arith, w .to, l) }))
+
+-- ---- THE ANSWER ON LENT BYTES MEANS IT: whatever is given is told or denied of the record's fixes, the window and the box
+pub answer-means : (b : List ℕ) (s e : ℕ) (box : Box) (o : Option Fraction) → cross-answer trail b s e box ≡ gives o → Means (fixes trail b) box s e o
+answer-means b s e box o h = go (refusal trail crossing (asked-of trail b (asked-crossing s e box))) refl h
+  where
+    given-is : {x y : Option Fraction} → gives x ≡ gives y → x ≡ y
+    given-is {x} {y} q = let z : x ≡ y = cc in z
+
+    never-given : {k : ℕ} {x : Option Fraction} → turns-away k ≡ gives x → ⊥
+    never-given q = let z : _≡_ {A = ℕ} 0 1 = cc in omega arith
+
+    own : (c : Check → Bool) → NoneHolds c (bad-window ∷ bad-box ∷ []) → (c bad-window ≡ false) × (c bad-box ≡ false)
+    own c (and-not p (and-not q no-check)) = (p, q)
+
+    go : (r : Option ℕ) → refusal trail crossing (asked-of trail b (asked-crossing s e box)) ≡ r → answer r (first-crossing 16000 (fixes trail b) box s e) ≡ gives o → Means (fixes trail b) box s e o
+    go (some k) n q = absurd (never-given q)
+    go none n q =
+        let says = sentence trail (asked-of trail b (asked-crossing s e box)) in
+        let accepted : IsAccepted trail b = record { accepted = sym (reading-alone trail b (asked-crossing s e box)) ∙ none-front says (head-checks ++ fix-checks) (bad-window ∷ bad-box ∷ []) n } in
+        let rest = sym (none-first says (head-checks ++ fix-checks) (bad-window ∷ bad-box ∷ []) (none-front says (head-checks ++ fix-checks) (bad-window ∷ bad-box ∷ []) n)) ∙ n in
+        let p = own says (none-holds says (bad-window ∷ bad-box ∷ []) rest) in
+        rw (← given-is q) (accepted-means b s e box accepted (sym (window-says b s e box accepted) ∙ p .0) (sym (box-says b s e box accepted) ∙ p .1))

@@ -1,0 +1,181 @@
+// The questions layer: when a trail crosses a box.
+use distance::Duration;
+use distance::Seconds;
+use legs::Found;
+use legs::Frame;
+use legs::Raised;
+use legs::leg_first;
+use legs::offset_of;
+use legs::raise;
+use legs::since;
+use record::Checked;
+ghost use mathlib.Core.Path.{_≡_};
+ghost use Prim.Native.Nat.{_+_, _*_, _-_, _≤_};
+ghost use lib.Signed.{ltZ};
+ghost use Rattle.record.specs.Answers.{gives};
+ghost use lib.ListN.{length};
+ghost use Rattle.format.specs.Format.{trail, fix-at};
+ghost use Rattle.record.specs.Checks.{IsAccepted, outside};
+ghost use Rattle.legs.specs.Legs.{raised, framed};
+ghost use Rattle.crossing.specs.Crossing.{first-from, cross-answer};
+ghost use Rattle.legs.specs.Answers.{found};
+ghost use Rattle.crossing.specs.Answers.{crossed, boxOf};
+ghost use Rattle.record.specs.Laws.Trail.{from};
+ghost use Rattle.legs.specs.Laws.Legs.{BoxInLimit};
+ghost use Rattle.legs.specs.Laws.Ranges.{Reach};
+ghost use Rattle.crossing.specs.Laws.Search.{Ready, time-outside, window-outside, edges-outside};
+
+// The window of a crossing, both ends included.
+pub struct Window {
+    pub start: Seconds,
+    pub end: Seconds,
+}
+
+// The coordinate of a box edge, in centimetres, wide enough for every one that is refused.
+pub struct Edge(pub i32);
+
+// A box, its edges included: left and right are the low and the high edge of x, bottom and top those of y.
+pub struct Edges {
+    pub left: Edge,
+    pub right: Edge,
+    pub bottom: Edge,
+    pub top: Edge,
+}
+
+// What the crossing question answers: the time n/d seconds after the first fix, or no, or the refusal.
+pub enum Crossed {
+    Told(u32, u16),
+    Denied,
+    Refused(u8),
+}
+
+// ---- the box and the fixes, counted
+
+fn framed(e: Edges) -> Frame
+    requires { ⌜ BoxInLimit (boxOf e) ⌝ }
+    ensures { λ r. ⌜ r ≡ framed 16000 (boxOf e) ⌝ }
+{
+    let left = e.left;
+    let right = e.right;
+    let bottom = e.bottom;
+    let top = e.top;
+    Frame {
+        left: offset_of(left.0),
+        right: offset_of(right.0),
+        bottom: offset_of(bottom.0),
+        top: offset_of(top.0),
+    }
+}
+
+fn raised_at(b: &[u8], k: usize, zero: Seconds) -> Raised
+    requires { ⌜ (18 + 8 * k ≤ length (now b)) × Reach (zero .0) (fix-at trail (now b) k) ⌝ }
+    ensures { λ r. ⌜ r ≡ raised 16000 (zero .0) (fix-at trail (now (b .entry)) k) ⌝ }
+{
+    raise(format::fix_at(b, k), zero)
+}
+
+// ---- the trail
+
+// The first leg that crosses gives the answer.
+fn first_crossing(
+    b: &[u8],
+    n: usize,
+    f: Frame,
+    zero: Seconds,
+    opens: Duration,
+    closes: Duration,
+) -> Found
+    requires { ⌜ Ready (now b) n (zero .0) ⌝ }
+    ensures { λ r. ⌜ found r ≡ first-from 16000 (zero .0) (fix-at trail (now (b .entry)) 0) (from (now (b .entry)) 1 n) f (opens .0) (closes .0) ⌝ }
+{
+    let mut a = raised_at(b, 0, zero);
+    let mut k = 1;
+    while k < n {
+        let z = raised_at(b, k, zero);
+        let r = leg_first(a, z, f, opens, closes);
+        if let Found::At(x) = r {
+            return Found::At(x);
+        }
+        a = z;
+        k += 1;
+    }
+    leg_first(a, a, f, opens, closes)
+}
+
+fn second_outside(s: Seconds, first: Seconds, last: Seconds) -> bool
+    ensures { λ r. ⌜ r ≡ time-outside (s .0) (first .0) (last .0) ⌝ }
+{
+    (s.0 < first.0) | (last.0 < s.0)
+}
+
+// Check 13, of the times of the first and the last fix.
+fn window_outside(w: Window, first: Seconds, last: Seconds) -> bool
+    ensures { λ r. ⌜ r ≡ window-outside (w .start .0) (w .end .0) (first .0) (last .0) ⌝ }
+{
+    let s = w.start;
+    let e = w.end;
+    (e.0 < s.0) | (second_outside(s, first, last) | second_outside(e, first, last))
+}
+
+fn edge_outside(e: Edge) -> bool
+    ensures { λ r. ⌜ r ≡ outside 16000 (e .0) ⌝ }
+{
+    (e.0 < -16000) | (16000 < e.0)
+}
+
+fn edges_swapped(low: Edge, high: Edge) -> bool
+    ensures { λ r. ⌜ r ≡ ltZ (high .0) (low .0) ⌝ }
+{
+    high.0 < low.0
+}
+
+// Check 14.
+fn edges_outside(e: Edges) -> bool
+    ensures { λ r. ⌜ r ≡ edges-outside (boxOf e) ⌝ }
+{
+    edge_outside(e.left)
+        | (edge_outside(e.right)
+            | (edge_outside(e.bottom)
+                | (edge_outside(e.top)
+                    | (edges_swapped(e.left, e.right) | edges_swapped(e.bottom, e.top)))))
+}
+
+fn told(r: Found) -> Crossed
+    ensures { λ c. ⌜ crossed c ≡ gives (found r) ⌝ }
+{
+    match r {
+        Found::At(f) => Crossed::Told(f.num, f.den),
+        Found::Never => Crossed::Denied,
+    }
+}
+
+// Checks 13 and 14, and the answer, of a record that is accepted.
+fn cross_accepted(b: &[u8], w: Window, e: Edges) -> Crossed
+    requires { ⌜ IsAccepted trail (now b) ⌝ }
+    ensures { λ r. ⌜ crossed r ≡ cross-answer trail (now (b .entry)) (w .start .0) (w .end .0) (boxOf e) ⌝ }
+{
+    let n = format::count_at(b);
+    let first = format::fix_at(b, 0);
+    let last = format::fix_at(b, n - 1);
+    let zero = first.t;
+    if window_outside(w, zero, last.t) {
+        return Crossed::Refused(13);
+    }
+    if edges_outside(e) {
+        return Crossed::Refused(14);
+    }
+    let opens = since(zero, w.start);
+    let closes = since(zero, w.end);
+    told(first_crossing(b, n, framed(e), zero, opens, closes))
+}
+
+// Whether the trail of a record crosses a box in a window, and the earliest time in seconds after the first fix.
+pub fn crosses(b: &[u8], w: Window, e: Edges) -> Crossed
+    ensures { λ r. ⌜ crossed r ≡ cross-answer trail (now (b .entry)) (w .start .0) (w .end .0) (boxOf e) ⌝ }
+{
+    let v = record::check(b);
+    match v {
+        Checked::Refused(k) => Crossed::Refused(k),
+        Checked::Accepted => cross_accepted(b, w, e),
+    }
+}

@@ -1,0 +1,30 @@
+use borrow.Author.Needs.{needs}
+use mir.Facts.{toZ-ofZ}
+use Rattle.format.specs.Laws.Numbers.{NumberFits, number-fits, number-negative, number-positive}
+use Rattle.format.proofs.numbers.coordinate_number.Statement.{statement}
+use Rattle.format.proofs.numbers.coordinate_number.Tie as tie
+
+ranges : (s : tie.Start) → NumberFits (s .args .c .0)
+ranges s = number-fits (search needs)
+
+cast-z : tie.Need-cast-z
+cast-z c = let k = ranges (c .before .before) in search needs
+
+add-result : tie.Need-add-result
+add-result c = let k = ranges (c .before .before .before) in search needs
+
+cast-result : tie.Need-cast-result
+cast-result c = let k = ranges (c .before .before .before) in let n = number-negative (c .before .before .before .args .c .0) (k .z16) (simp (toZ-ofZ, k .z16, k .z32) at (c .if1 .taken)) in search needs
+
+returns : tie.Need-returns
+returns c = let k = ranges (c .before .before .before) in let n = number-negative (c .before .before .before .args .c .0) (k .z16) (simp (toZ-ofZ, k .z16, k .z32) at (c .if1 .taken)) in simp (toZ-ofZ, k .z16, k .z32, k .sum32) (n .is)
+
+cast-result-2 : tie.Need-cast-result-2
+cast-result-2 c = let k = ranges (c .before .before .before) in let n = number-positive (c .before .before .before .args .c .0) (k .z16) (simp (toZ-ofZ, k .z16, k .z32) at (c .if1 .left)) in search needs
+
+returns-2 : tie.Need-returns-2
+returns-2 c = let k = ranges (c .before .before .before) in let n = number-positive (c .before .before .before .args .c .0) (k .z16) (simp (toZ-ofZ, k .z16, k .z32) at (c .if1 .left)) in simp (toZ-ofZ, k .z16, k .z32) (n .is)
+
+pub coordinate-number-spec : {M : Type 1} → statement M
+coordinate-number-spec =
+    tie.close (tie.spec cast-z add-result cast-result returns cast-result-2 returns-2)

@@ -1,0 +1,80 @@
+-- THE TRAIL RECORD. Document 01: "Little-endian, length first: length (4 bytes, whole record), kind (2 bytes, 1 = trail), mark (2 bytes:
+-- greatest tolerance applied, or 65,535 = never thinned), count n (2 bytes), then n fixes of 8 bytes: time (4), x (2), y (2, two's complement
+-- both). Length = 10 + 8n".
+use mathlib.Core.Bool.{cond}
+use mathlib.Core.List.{List, [], _∷_, _++_}
+use Prim.Native.Nat.{ℕ, zero, suc, _+_, _*_}
+use lib.Dec.{ltb}
+use lib.ListN.{length}
+use Rattle.distance.specs.Fix.{Fix}
+use Rattle.format.specs.Bytes.{number-at, bytes-of, signed, unsigned}
+
+-- What another kind of record may have otherwise.
+pub record Kind : Type 0 where
+  -- its number
+  pub code : ℕ
+  -- the bytes of a fix, and of each of its coordinates
+  pub size : ℕ
+  pub width : ℕ
+  -- its places go from −limit to limit, and its tolerances up to top
+  pub limit : ℕ
+  pub top : ℕ
+
+-- Kind 1.
+abbrev pub trail : Kind
+trail = record { code = 1; size = 8; width = 2; limit = 16000; top = 32000 }
+
+-- The mark of a record that was never thinned.
+abbrev pub never : ℕ
+never = 65535
+
+-- ---- reading: what lent bytes say. Those after the record "are ignored".
+abbrev pub length-field : List ℕ → ℕ
+length-field b = number-at b 0 4
+
+abbrev pub kind-field : List ℕ → ℕ
+kind-field b = number-at b 4 2
+
+abbrev pub mark-field : List ℕ → ℕ
+mark-field b = number-at b 6 2
+
+abbrev pub count-field : List ℕ → ℕ
+count-field b = number-at b 8 2
+
+-- What a field of the head says; of bytes that are no whole head, 0.
+unfoldable pub of-head : (List ℕ → ℕ) → List ℕ → ℕ
+of-head field b = cond (ltb (length b) 10) 0 (field b)
+
+-- The length of a record of n fixes.
+abbrev pub record-length : Kind → ℕ → ℕ
+record-length K n = 10 + K .size * n
+
+-- The fix at a position, counted from 0.
+unfoldable pub fix-at : Kind → List ℕ → ℕ → Fix
+fix-at K b k =
+    let at = record-length K k in
+    record { t = number-at b at 4; x = signed (K .width) (number-at b (at + 4) (K .width)); y = signed (K .width) (number-at b (at + 4 + K .width) (K .width)) }
+
+-- f k, f (k + 1) and so on, n of them.
+unfoldable pub each {ℓ} : {A : Type ℓ} → (ℕ → A) → (k n : ℕ) → List A
+each f k zero = []
+each f k (suc n) = f k ∷ each f (suc k) n
+
+-- The record's fixes.
+abbrev pub fixes : Kind → List ℕ → List Fix
+fixes K b = each (fix-at K b) 0 (count-field b)
+
+-- ---- writing
+unfoldable pub fix-bytes : Kind → Fix → List ℕ
+fix-bytes K f = bytes-of 4 (f .t) ++ (bytes-of (K .width) (unsigned (K .width) (f .x)) ++ bytes-of (K .width) (unsigned (K .width) (f .y)))
+
+unfoldable pub all-bytes : Kind → List Fix → List ℕ
+all-bytes K [] = []
+all-bytes K (f ∷ l) = fix-bytes K f ++ all-bytes K l
+
+unfoldable pub header-bytes : Kind → (mark n : ℕ) → List ℕ
+header-bytes K mark n = bytes-of 4 (record-length K n) ++ (bytes-of 2 (K .code) ++ (bytes-of 2 mark ++ bytes-of 2 n))
+
+-- The record of a list of fixes and a mark.
+unfoldable pub record-bytes : Kind → (mark : ℕ) → List Fix → List ℕ
+record-bytes K mark l = header-bytes K mark (length l) ++ all-bytes K l

@@ -1,0 +1,6 @@
+-- What is proved of the definitions, each law once.
+pub mod Each
+pub mod Numbers
+pub mod Stores
+pub mod Layout
+pub mod RoundTrip

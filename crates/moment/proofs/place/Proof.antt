@@ -1,0 +1,30 @@
+use mathlib.Core.Path.{sym, _∙_, ap}
+use denote.Ref.{now}
+use Rattle.record.specs.Answers.{refused}
+use Rattle.moment.specs.Laws.Placing.{place-refused}
+use borrow.Author.Needs.{needs}
+use Rattle.moment.proofs.place.Statement.{statement}
+use Rattle.moment.proofs.place.Tie as tie
+
+check-requires : tie.Need-check-requires
+check-requires c κs = search needs
+
+enum-known-v : tie.Need-enum-known-v
+enum-known-v c = search needs
+
+enum-told : tie.Need-enum-told
+enum-told c = search needs
+
+place-accepted-requires : tie.Need-place-accepted-requires
+place-accepted-requires c κs = record { accepted = sym (c .before .before .check .ensures) ∙ ap refused (c .enum-told .given .1) }
+
+returns : tie.Need-returns
+returns c = sym (place-refused (now (c .before .before .before .before .before .args .b)) _ _ _ (sym (c .before .before .before .check .ensures) ∙ ap refused (c .before .v .given .1)))
+
+returns-2 : tie.Need-returns-2
+returns-2 c = search needs
+
+pub place-spec : {M : Type 1} → statement M
+place-spec =
+    tie.close
+    (tie.spec check-requires enum-known-v enum-told place-accepted-requires returns returns-2)

@@ -1,0 +1,6 @@
+-- What a reader must believe:
+pub mod Rounding
+pub mod Moment
+pub mod Answers
+-- and what engineers prove of it:
+pub mod Laws

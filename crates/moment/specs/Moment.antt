@@ -1,0 +1,59 @@
+-- PLACE AT A MOMENT. Document 01: "The where-at question of source documents 001 and 003. The moment is a second s (32 bits) and m thousandths."
+use mathlib.Core.Bool.{cond}
+use mathlib.Core.List.{List, [], _∷_}
+use Prim.Native.Nat.{ℕ, _+_, _*_}
+use lib.Dec.{leb}
+use lib.IntN.{ℤ, pos, _+ℤ_, _-ℤ_, _*ℤ_}
+use Rattle.distance.specs.Fix.{Fix}
+use Rattle.distance.specs.Distance.{seconds}
+use Rattle.distance.specs.Place.{Place, own}
+use Rattle.format.specs.Format.{Kind, fixes}
+use Rattle.record.specs.Checks.{Given, asked-of, nothing, refusal, placing}
+use Rattle.record.specs.Answers.{Answer, answer}
+use Rattle.moment.specs.Rounding.{rounded}
+
+-- One axis: "numerator x_i·1000·D + (x_j − x_i)·(1000·(s − t_i) + m)".
+abbrev pub numerator : (i j D since : ℤ) (m : ℕ) → ℤ
+numerator i j D since m = i *ℤ (pos 1000 *ℤ D) +ℤ (j -ℤ i) *ℤ (pos 1000 *ℤ since +ℤ pos m)
+
+-- "With D its seconds, the answer has denominator 1000·D and numerator [..], likewise y, not reduced."
+unfoldable pub on-leg : (i j : Fix) (s m : ℕ) → Place
+on-leg i j s m =
+    let D = seconds i j in
+    let since = pos s -ℤ pos (i .t) in
+    record { x = numerator (i .x) (j .x) D since m; y = numerator (i .y) (j .y) D since m; d = pos 1000 *ℤ D }
+
+-- From fix i on: "The leg is the first whose end isn't earlier than the moment."
+-- "One fix: denominator 1", and the place its own.
+unfoldable pub moment-from : Fix → List Fix → (s m : ℕ) → Place
+moment-from i [] s m = own i
+moment-from i (j ∷ l) s m = cond (leb (1000 * s + m) (1000 * j .t)) (on-leg i j s m) (moment-from j l s m)
+
+-- A trail has a first fix: of no fixes nothing is asked.
+unfoldable pub at-moment : List Fix → (s m : ℕ) → Place
+at-moment [] s m = record { x = pos 0; y = pos 0; d = pos 1 }
+at-moment (i ∷ l) s m = moment-from i l s m
+
+-- The answer: the fraction, and "Beside it stands the rounded place".
+pub record Standing : Type 0 where
+  pub exact : Place
+  pub x : ℤ
+  pub y : ℤ
+
+abbrev pub beside : Place → Standing
+beside P = record { exact = P; x = rounded (P .x) (P .d); y = rounded (P .y) (P .d) }
+
+abbrev pub asked-moment : (s m : ℕ) → Given
+asked-moment s m = record {
+  tolerance = nothing .tolerance;
+  second = s;
+  thousandths = m;
+  start = nothing .start;
+  end = nothing .end;
+  box = nothing .box;
+  output = nothing .output;
+}
+
+-- THE ANSWER of the place question on lent bytes: "the place question 1 to 9, 11, 12".
+abbrev pub place-answer : Kind → List ℕ → (s m : ℕ) → Answer Standing
+place-answer K b s m = answer (refusal K placing (asked-of K b (asked-moment s m))) (beside (at-moment (fixes K b) s m))

@@ -1,0 +1,17 @@
+use mir.Syntax.{w16}
+use Rattle.table.specs.Signs.{widened}
+use borrow.Author.Needs.{needs}
+use Rattle.table.proofs.coordinate.Statement.{statement}
+use Rattle.table.proofs.coordinate.Tie as tie
+
+cast-whole : tie.Need-cast-whole
+cast-whole c = widened {w = w16} {z = c .before .before .args .c .0} tt (search needs)
+
+whole-requires : tie.Need-whole-requires
+whole-requires c κs = search needs
+
+returns : tie.Need-returns
+returns c = search needs
+
+pub coordinate-spec : {M : Type 1} → statement M
+coordinate-spec = tie.close (tie.spec cast-whole whole-requires returns)

@@ -1,0 +1,17 @@
+use mir.Syntax.{w32}
+use Rattle.table.specs.Signs.{widened}
+use borrow.Author.Needs.{needs}
+use Rattle.table.proofs.edge.Statement.{statement}
+use Rattle.table.proofs.edge.Tie as tie
+
+cast-whole : tie.Need-cast-whole
+cast-whole c = widened {w = w32} {z = c .before .before .args .e .0} tt (search needs)
+
+whole-requires : tie.Need-whole-requires
+whole-requires c κs = search needs
+
+returns : tie.Need-returns
+returns c = search needs
+
+pub edge-spec : {M : Type 1} → statement M
+edge-spec = tie.close (tie.spec cast-whole whole-requires returns)

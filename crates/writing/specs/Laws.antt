@@ -1,0 +1,4 @@
+-- What is proved of the definitions, each law once.
+pub mod Writing
+pub mod ReadsBack
+pub mod Passing
