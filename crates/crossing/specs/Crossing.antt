@@ -45,21 +45,23 @@ abbrev pub Means : List Fix → Box → (s e : ℕ) → Option Fraction → Type
 Means l box s e (some f) = Told l box s e (f .num) (f .den)
 Means l box s e none = Denied l box s e
 
--- ---- a trail: the first leg that crosses. The last fix, or a lone one, is a leg of no seconds from itself to itself.
+-- ---- the same computed: the first leg that crosses. The last fix, or a lone one, is a leg of no seconds from itself to itself.
 abbrev pub or-else : Option Fraction → Option Fraction → Option Fraction
 or-else (some f) r = some f
 or-else none r = r
 
-unfoldable pub first-from : (limit zero : ℕ) → Fix → List Fix → Frame → (w v : ℕ) → Option Fraction
-first-from limit zero a [] f w v = leg-first (raised limit zero a) (raised limit zero a) f w v
-first-from limit zero a (b ∷ l) f w v = or-else (leg-first (raised limit zero a) (raised limit zero b) f w v) (first-from limit zero b l f w v)
+unfoldable pub first-from : (limit first : ℕ) → Fix → List Fix → Frame → (w v : ℕ) → Option Fraction
+first-from limit first a [] f w v = leg-first (raised limit first a) (raised limit first a) f w v
+first-from limit first a (b ∷ l) f w v = or-else (leg-first (raised limit first a) (raised limit first b) f w v) (first-from limit first b l f w v)
 
--- The first crossing of a trail, in seconds after its first fix.
+-- The first crossing of a trail, in seconds after its first fix. (`crossing-means` of Laws/Crossing.antt: it means what is said above.) Check 13 has seen to
+-- it that the window doesn't begin before the first fix, so that no second less the first fix's is cut off at 0.
 unfoldable pub first-crossing : (limit : ℕ) → List Fix → Box → (s e : ℕ) → Option Fraction
 first-crossing limit [] box s e = none
 first-crossing limit (a ∷ l) box s e = first-from limit (a .t) a l (framed limit box) (s - a .t) (e - a .t)
 
--- ---- THE ANSWER: the form of the fraction is the one that `first-crossing` computes.
+-- ---- THE ANSWER: the form of the fraction is the one that `first-crossing` computes. What the call does not take decides nothing (`crossing-alone` of the
+-- record's Laws/First.antt).
 abbrev pub asked-crossing : (s e : ℕ) → Box → Given
 asked-crossing s e box = record {
   tolerance = nothing .tolerance;

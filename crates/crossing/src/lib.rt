@@ -1,8 +1,8 @@
 // The questions layer: when a trail crosses a box.
 use distance::Duration;
 use distance::Seconds;
-use legs::Found;
 use legs::Frame;
+use legs::Meeting;
 use legs::Raised;
 use legs::leg_first;
 use legs::offset_of;
@@ -18,12 +18,12 @@ ghost use Rattle.format.specs.Format.{trail, fix-at};
 ghost use Rattle.record.specs.Checks.{IsAccepted, outside};
 ghost use Rattle.legs.specs.Legs.{raised, framed};
 ghost use Rattle.crossing.specs.Crossing.{first-from, cross-answer};
-ghost use Rattle.legs.specs.Answers.{found};
+ghost use Rattle.legs.specs.Answers.{meeting};
 ghost use Rattle.crossing.specs.Answers.{crossed, boxOf};
 ghost use Rattle.record.specs.Laws.Trail.{from};
 ghost use Rattle.legs.specs.Laws.Legs.{BoxInLimit};
 ghost use Rattle.legs.specs.Laws.Ranges.{Reach};
-ghost use Rattle.crossing.specs.Laws.Search.{Ready, time-outside, window-outside, edges-outside};
+ghost use Rattle.crossing.specs.Laws.Search.{Seekable, time-outside, window-outside, edges-outside};
 
 // The window of a crossing, both ends included.
 pub struct Window {
@@ -84,17 +84,17 @@ fn first_crossing(
     zero: Seconds,
     opens: Duration,
     closes: Duration,
-) -> Found
-    requires { ⌜ Ready (now b) n (zero .0) ⌝ }
-    ensures { λ r. ⌜ found r ≡ first-from 16000 (zero .0) (fix-at trail (now (b .entry)) 0) (from (now (b .entry)) 1 n) f (opens .0) (closes .0) ⌝ }
+) -> Meeting
+    requires { ⌜ Seekable (now b) n (zero .0) ⌝ }
+    ensures { λ r. ⌜ meeting r ≡ first-from 16000 (zero .0) (fix-at trail (now (b .entry)) 0) (from (now (b .entry)) 1 n) f (opens .0) (closes .0) ⌝ }
 {
     let mut a = raised_at(b, 0, zero);
     let mut k = 1;
     while k < n {
         let z = raised_at(b, k, zero);
         let r = leg_first(a, z, f, opens, closes);
-        if let Found::At(x) = r {
-            return Found::At(x);
+        if let Meeting::At(x) = r {
+            return Meeting::At(x);
         }
         a = z;
         k += 1;
@@ -140,12 +140,12 @@ fn edges_outside(e: Edges) -> bool
                     | (edges_swapped(e.left, e.right) | edges_swapped(e.bottom, e.top)))))
 }
 
-fn told(r: Found) -> Crossed
-    ensures { λ c. ⌜ crossed c ≡ gives (found r) ⌝ }
+fn told(r: Meeting) -> Crossed
+    ensures { λ c. ⌜ crossed c ≡ gives (meeting r) ⌝ }
 {
     match r {
-        Found::At(f) => Crossed::Told(f.num, f.den),
-        Found::Never => Crossed::Denied,
+        Meeting::At(f) => Crossed::Told(f.num, f.den),
+        Meeting::Never => Crossed::Denied,
     }
 }
 

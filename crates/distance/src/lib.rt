@@ -3,7 +3,7 @@ ghost use mathlib.Core.Path.{_≡_};
 ghost use Prim.Native.Nat.{_+_, _≤_};
 ghost use lib.IntN.{pos, _-ℤ_};
 ghost use Rattle.distance.specs.Fix.{fixOf};
-ghost use Rattle.distance.specs.Distance.{N, deviation, allowance, within};
+ghost use Rattle.distance.specs.Distance.{N, deviation, allowance};
 ghost use Rattle.distance.specs.Span.{Chord, Span};
 
 // A time on the fixes' own clock. Times and lengths have types of their own, so that neither can stand for the other.
@@ -59,12 +59,4 @@ pub fn allowance(e: Tolerance, i: Fix, j: Fix) -> u64
     let d = elapsed(i.t, j.t);
     let reach = (e.0 as u64) * (d.0 as u64);
     reach * reach
-}
-
-// Is the inner fix m at most e from where the chord from i to j has the cart at that time?
-pub fn within(e: Tolerance, i: Fix, m: Fix, j: Fix) -> bool
-    requires { ⌜ Span 16000 (fixOf i) (fixOf m) (fixOf j) ⌝ }
-    ensures { λ r. ⌜ r ≡ within (e .0) (fixOf i) (fixOf m) (fixOf j) ⌝ }
-{
-    deviation(i, m, j) <= allowance(e, i, j)
 }

@@ -17,33 +17,33 @@ use Rattle.export.specs.declared.Spot.{Spot}
 use Rattle.export.specs.declared.Crossing.{Crossing}
 
 -- A record's count and mark, unless it is turned away.
-abbrev pub checked : Option ℕ → List ℕ → Head
-checked none b = record { refusal = 0; count = count-field b; mark = mark-field b }
-checked (some k) b = record { refusal = k; count = 0; mark = 0 }
+abbrev pub checked-numbers : Option ℕ → List ℕ → Head
+checked-numbers none b = record { refusal = 0; count = count-field b; mark = mark-field b }
+checked-numbers (some k) b = record { refusal = k; count = 0; mark = 0 }
 
-abbrev pub head : List ℕ → Head
-head b = checked (read-refusal trail b) b
+abbrev pub head-numbers : List ℕ → Head
+head-numbers b = checked-numbers (read-refusal trail b) b
 
 -- A fix, if there is one.
-abbrev pub step : Option Fix → Step
-step none = record { found = 0; t = 0; x = pos 0; y = pos 0 }
-step (some f) = record { found = 1; t = f .t; x = f .x; y = f .y }
+abbrev pub step-numbers : Option Fix → Step
+step-numbers none = record { found = 0; t = 0; x = pos 0; y = pos 0 }
+step-numbers (some f) = record { found = 1; t = f .t; x = f .x; y = f .y }
 
 -- A value, unless there is a refusal.
-abbrev pub answer : Answer ℕ → Numbers
-answer (gives n) = record { refusal = 0; value = n }
-answer (turns-away k) = record { refusal = k; value = 0 }
+abbrev pub value-numbers : Answer ℕ → Numbers
+value-numbers (gives n) = record { refusal = 0; value = n }
+value-numbers (turns-away k) = record { refusal = k; value = 0 }
 
 -- A place's fraction, whose denominator is at least 1, and the rounded place, unless there is a refusal.
-abbrev pub spot : Answer Standing → Spot
-spot (gives s) = record { refusal = 0; denominator = natAbs (s .exact .d); x = s .exact .x; y = s .exact .y; «whole_x» = s .x; «whole_y» = s .y }
-spot (turns-away k) = record { refusal = k; denominator = 0; x = pos 0; y = pos 0; «whole_x» = pos 0; «whole_y» = pos 0 }
+abbrev pub spot-numbers : Answer Standing → Spot
+spot-numbers (gives s) = record { refusal = 0; denominator = natAbs (s .exact .d); x = s .exact .x; y = s .exact .y; «whole_x» = s .rounded-x; «whole_y» = s .rounded-y }
+spot-numbers (turns-away k) = record { refusal = k; denominator = 0; x = pos 0; y = pos 0; «whole_x» = pos 0; «whole_y» = pos 0 }
 
 -- Yes with its time or no, unless there is a refusal.
-abbrev pub crossing : Answer (Option Fraction) → Crossing
-crossing (gives (some f)) = record { refusal = 0; crosses = 1; numerator = f .num; denominator = f .den }
-crossing (gives none) = record { refusal = 0; crosses = 0; numerator = 0; denominator = 0 }
-crossing (turns-away k) = record { refusal = k; crosses = 0; numerator = 0; denominator = 0 }
+abbrev pub crossing-numbers : Answer (Option Fraction) → Crossing
+crossing-numbers (gives (some f)) = record { refusal = 0; crosses = 1; numerator = f .num; denominator = f .den }
+crossing-numbers (gives none) = record { refusal = 0; crosses = 0; numerator = 0; denominator = 0 }
+crossing-numbers (turns-away k) = record { refusal = k; crosses = 0; numerator = 0; denominator = 0 }
 
-abbrev pub box : (left right bottom top : ℤ) → Box
-box left right bottom top = record { x-low = left; x-high = right; y-low = bottom; y-high = top }
+abbrev pub box-of : (left right bottom top : ℤ) → Box
+box-of left right bottom top = record { x-low = left; x-high = right; y-low = bottom; y-high = top }

@@ -28,40 +28,40 @@ use Rattle.thinning.specs.Aging.{age-refusal, age-answer, days-refusal, days-an
 use Rattle.export.specs.declared.Head.{Head}
 use Rattle.export.specs.declared.Step.{Step}
 use Rattle.export.specs.declared.Spot.{Spot as Numbers}
-use Rattle.export.specs.Interface.{checked, head, step, answer, spot, crossing, box}
+use Rattle.export.specs.Interface.{checked-numbers, head-numbers, step-numbers, value-numbers, spot-numbers, crossing-numbers, box-of}
 
 -- ---- 0 is none
-counted : (c : Check) → 1 ≤ number c
-counted few-bytes = omega arith
-counted other-kind = omega arith
-counted bad-count = omega arith
-counted bad-length = omega arith
-counted short-record = omega arith
-counted bad-mark = omega arith
-counted misplaced = omega arith
-counted unordered = omega arith
-counted long-span = omega arith
-counted high-tolerance = omega arith
-counted bad-thousandths = omega arith
-counted bad-moment = omega arith
-counted bad-window = omega arith
-counted bad-box = omega arith
-counted short-output = omega arith
+numbered : (c : Check) → 1 ≤ number c
+numbered few-bytes = omega arith
+numbered other-kind = omega arith
+numbered bad-count = omega arith
+numbered bad-length = omega arith
+numbered short-record = omega arith
+numbered bad-mark = omega arith
+numbered misplaced = omega arith
+numbered unordered = omega arith
+numbered long-span = omega arith
+numbered high-tolerance = omega arith
+numbered bad-thousandths = omega arith
+numbered bad-moment = omega arith
+numbered bad-window = omega arith
+numbered bad-box = omega arith
+numbered short-output = omega arith
 
-holds-counted : {says : Check → Bool} {k : ℕ} {l : List Check} → FirstHolds says k l → 1 ≤ k
-holds-counted (this {c} h e) = let p = counted c in omega arith
-holds-counted (not-before h r) = holds-counted r
+holds-numbered : {says : Check → Bool} {k : ℕ} {l : List Check} → FirstHolds says k l → 1 ≤ k
+holds-numbered (this {c} h e) = let p = numbered c in omega arith
+holds-numbered (not-before h r) = holds-numbered r
 
-pub first-counted : (says : Check → Bool) (l : List Check) (k : ℕ) → first says l ≡ some k → 1 ≤ k
-first-counted says l k h = holds-counted (first-exactly says k l .0 h)
+pub first-numbered : (says : Check → Bool) (l : List Check) (k : ℕ) → first says l ≡ some k → 1 ≤ k
+first-numbered says l k h = holds-numbered (first-exactly says k l .0 h)
 
 -- A refusal of 0 means that the record is accepted, ..
-pub head-none : (b : List ℕ) → head b .refusal ≡ 0 → read-refusal trail b ≡ none
+pub head-none : (b : List ℕ) → head-numbers b .refusal ≡ 0 → read-refusal trail b ≡ none
 head-none b h = go (read-refusal trail b) refl h
   where
-    go : (o : Option ℕ) → read-refusal trail b ≡ o → checked o b .refusal ≡ 0 → read-refusal trail b ≡ none
+    go : (o : Option ℕ) → read-refusal trail b ≡ o → checked-numbers o b .refusal ≡ 0 → read-refusal trail b ≡ none
     go none e z = e
-    go (some k) e z = let p = first-counted _ _ k e in absurd (omega arith)
+    go (some k) e z = let p = first-numbered _ _ k e in absurd (omega arith)
 
 -- .. and of an answer that the operation made none of its refusals: ..
 answer-none : {A : Type 0} (f : Answer A → ℕ) → ((k : ℕ) → f (turns-away k) ≡ k) → (says : Check → Bool) (l : List Check) (a : A) → f (told (first says l) a) ≡ 0 → first says l ≡ none
@@ -69,28 +69,28 @@ answer-none f is says l a h = go (first says l) refl h
   where
     go : (o : Option ℕ) → first says l ≡ o → f (told o a) ≡ 0 → first says l ≡ none
     go none e z = e
-    go (some k) e z = let p = first-counted says l k e in absurd (omega (arith, is k))
+    go (some k) e z = let p = first-numbered says l k e in absurd (omega (arith, is k))
 
 -- .. the fixes are written, ..
-pub written-none : (l : List Fix) (out : List ℕ) → answer (write-answer trail l out) .refusal ≡ 0 → write-refusal trail l out ≡ none
-written-none l out h = answer-none (λ a. answer a .refusal) (λ k. refl) _ _ _ h
+pub written-none : (l : List Fix) (out : List ℕ) → value-numbers (write-answer trail l out) .refusal ≡ 0 → write-refusal trail l out ≡ none
+written-none l out h = answer-none (λ a. value-numbers a .refusal) (λ k. refl) _ _ _ h
 
 -- .. the record is aged, by tolerance or by days, ..
-pub aged-none : (b : List ℕ) (e : ℕ) → answer (age-answer b e) .refusal ≡ 0 → age-refusal b e ≡ none
-aged-none b e h = answer-none (λ a. answer a .refusal) (λ k. refl) _ _ _ h
+pub aged-none : (b : List ℕ) (e : ℕ) → value-numbers (age-answer b e) .refusal ≡ 0 → age-refusal b e ≡ none
+aged-none b e h = answer-none (λ a. value-numbers a .refusal) (λ k. refl) _ _ _ h
 
-pub days-none : (b : List ℕ) (days : ℕ) → answer (days-answer b days) .refusal ≡ 0 → days-refusal b ≡ none
-days-none b days h = answer-none (λ a. answer a .refusal) (λ k. refl) _ _ _ h
+pub days-none : (b : List ℕ) (days : ℕ) → value-numbers (days-answer b days) .refusal ≡ 0 → days-refusal b ≡ none
+days-none b days h = answer-none (λ a. value-numbers a .refusal) (λ k. refl) _ _ _ h
 
 -- .. the place is given, and the crossing is told or denied.
-pub place-none : (b : List ℕ) (s m : ℕ) → spot (place-answer trail b s m) .refusal ≡ 0 → refusal trail placing (asked-of trail b (asked-moment s m)) ≡ none
-place-none b s m h = answer-none (λ a. spot a .refusal) (λ k. refl) _ _ _ h
+pub place-none : (b : List ℕ) (s m : ℕ) → spot-numbers (place-answer trail b s m) .refusal ≡ 0 → refusal trail placing (asked-of trail b (asked-moment s m)) ≡ none
+place-none b s m h = answer-none (λ a. spot-numbers a .refusal) (λ k. refl) _ _ _ h
 
-pub crossing-none : (b : List ℕ) (s e : ℕ) (x : Box) → crossing (cross-answer trail b s e x) .refusal ≡ 0 → refusal trail crosses (asked-of trail b (asked-crossing s e x)) ≡ none
-crossing-none b s e x h = answer-none (λ a. crossing a .refusal) (λ k. refl) _ _ _ h
+pub crossing-none : (b : List ℕ) (s e : ℕ) (x : Box) → crossing-numbers (cross-answer trail b s e x) .refusal ≡ 0 → refusal trail crosses (asked-of trail b (asked-crossing s e x)) ≡ none
+crossing-none b s e x h = answer-none (λ a. crossing-numbers a .refusal) (λ k. refl) _ _ _ h
 
 -- ---- the reading function
-pub step-found : (f : Fix) (x y : ℤ) (o : Option Fix) → x ≡ f .x → y ≡ f .y → some f ≡ o → _≡_ {A = Step} (record { found = 1; t = f .t; x = x; y = y }) (step o)
+pub step-found : (f : Fix) (x y : ℤ) (o : Option Fix) → x ≡ f .x → y ≡ f .y → some f ≡ o → _≡_ {A = Step} (record { found = 1; t = f .t; x = x; y = y }) (step-numbers o)
 step-found f x y o ex ey h = rw (ex, ey, ← h) refl
 
 -- ---- the checking function
@@ -103,19 +103,19 @@ module _ (b : List ℕ) where
       go true e = absurd (some-none (sym (stops (says b) few-bytes _ (few b (ltb-true _ _ e))) ∙ h))
       go false e = ltb-false _ _ e
 
-  pub head-refused : (k n : ℕ) → n ≡ k → read-refusal trail b ≡ some k → _≡_ {A = Head} (record { refusal = n; count = 0; mark = 0 }) (head b)
+  pub head-refused : (k n : ℕ) → n ≡ k → read-refusal trail b ≡ some k → _≡_ {A = Head} (record { refusal = n; count = 0; mark = 0 }) (head-numbers b)
   head-refused k n e h = rw (h, e) refl
 
-  pub head-accepted : (n m : ℕ) → n ≡ of-head count-field b → m ≡ of-head mark-field b → read-refusal trail b ≡ none → _≡_ {A = Head} (record { refusal = 0; count = n; mark = m }) (head b)
+  pub head-accepted : (n m : ℕ) → n ≡ of-head count-field b → m ≡ of-head mark-field b → read-refusal trail b ≡ none → _≡_ {A = Head} (record { refusal = 0; count = n; mark = m }) (head-numbers b)
   head-accepted n m en em h = rw (h, en, em, of-head-field count-field b (ten h), of-head-field mark-field b (ten h)) refl
 
 -- ---- the questions: a place as numbers, and the same bytes, window and box give the same crossing
 pub spot-at : (s : Spot) (x y p q : ℤ) (a : Placed) → x ≡ s .x → y ≡ s .y → p ≡ s .whole .x .0 → q ≡ s .whole .y .0 → a ≡ Place.At s
-    → _≡_ {A = Numbers} (record { refusal = 0; denominator = s .d; x = x; y = y; «whole_x» = p; «whole_y» = q }) (spot (placed a))
+    → _≡_ {A = Numbers} (record { refusal = 0; denominator = s .d; x = x; y = y; «whole_x» = p; «whole_y» = q }) (spot-numbers (placed a))
 spot-at s x y p q a ex ey ep eq h = rw (ex, ey, ep, eq, h) refl
 
 pub same-crossing : {b c : List ℕ} {s t e f : ℕ} {p q : Box} → b ≡ c → s ≡ t → e ≡ f → p ≡ q → cross-answer trail b s e p ≡ cross-answer trail c t f q
 same-crossing h k m n = rw (h, k, m, n) refl
 
-pub same-box : {x y z w a b c d : ℤ} → x ≡ a → y ≡ b → z ≡ c → w ≡ d → box x y z w ≡ box a b c d
+pub same-box : {x y z w a b c d : ℤ} → x ≡ a → y ≡ b → z ≡ c → w ≡ d → box-of x y z w ≡ box-of a b c d
 same-box h k m n = rw (h, k, m, n) refl

@@ -16,7 +16,7 @@ ghost use Rattle.record.specs.Reading.{yields};
 ghost use Rattle.writing.specs.Writing.{columns, write-answer, written};
 ghost use Rattle.thinning.specs.Answers.{counted};
 ghost use Rattle.thinning.specs.Aging.{age-answer, aged, days-answer, aged-by-days};
-ghost use Rattle.export.specs.Interface.{head, step, answer};
+ghost use Rattle.export.specs.Interface.{head-numbers, step-numbers, value-numbers};
 
 // Whether a record was accepted, and then what its head says.
 #[repr(C)]
@@ -77,7 +77,7 @@ fn whole(c: Centimetres) -> i32
 // Checks 1 to 9.
 #[no_mangle]
 pub extern "C" fn trails_check(b: &[u8]) -> Head
-    ensures { λ r. ⌜ r ≡ head (now (b .entry)) ⌝ }
+    ensures { λ r. ⌜ r ≡ head-numbers (now (b .entry)) ⌝ }
 {
     let c = record::check(b);
     match c {
@@ -100,7 +100,7 @@ pub extern "C" fn trails_check(b: &[u8]) -> Head
 // The fix that a reader at this position yields.
 #[no_mangle]
 pub extern "C" fn trails_read(b: &[u8], position: usize) -> Step
-    ensures { λ r. ⌜ r ≡ step (yields trail (now (b .entry)) position) ⌝ }
+    ensures { λ r. ⌜ r ≡ step-numbers (yields trail (now (b .entry)) position) ⌝ }
 {
     let s = record::read_at(b, position);
     match s {
@@ -125,7 +125,7 @@ pub extern "C" fn trails_read(b: &[u8], position: usize) -> Step
 // The record of the fixes whose times and coordinates the three columns have.
 #[no_mangle]
 pub extern "C" fn trails_write(t: &[u32], x: &[i16], y: &[i16], out: &mut [u8]) -> Answer
-    ensures { λ r. ⌜ (r ≡ answer (write-answer trail (columns (now (t .entry)) (now (x .entry)) (now (y .entry))) (now (out .entry)))) × (now (out .exit) ≡ written trail (columns (now (t .entry)) (now (x .entry)) (now (y .entry))) (now (out .entry))) ⌝ }
+    ensures { λ r. ⌜ (r ≡ value-numbers (write-answer trail (columns (now (t .entry)) (now (x .entry)) (now (y .entry))) (now (out .entry)))) × (now (out .exit) ≡ written trail (columns (now (t .entry)) (now (x .entry)) (now (y .entry))) (now (out .entry))) ⌝ }
 {
     let w = writing::write(t, x, y, out);
     match w {
@@ -150,7 +150,7 @@ pub extern "C" fn trails_list(b: &[u8], out: &mut [u8; 118805]) -> usize
 
 // What an aging answers, as numbers.
 fn count_of(a: Aged) -> Answer
-    ensures { λ r. ⌜ r ≡ answer (counted a) ⌝ }
+    ensures { λ r. ⌜ r ≡ value-numbers (counted a) ⌝ }
 {
     match a {
         Aged::Count(measured) => Answer {
@@ -167,7 +167,7 @@ fn count_of(a: Aged) -> Answer
 // Ages the record at the start of the buffer by tolerance.
 #[no_mangle]
 pub extern "C" fn trails_age(b: &mut [u8], tolerance: u16) -> Answer
-    ensures { λ r. ⌜ (r ≡ answer (age-answer (now (b .entry)) tolerance)) × (now (b .exit) ≡ aged (now (b .entry)) tolerance) ⌝ }
+    ensures { λ r. ⌜ (r ≡ value-numbers (age-answer (now (b .entry)) tolerance)) × (now (b .exit) ≡ aged (now (b .entry)) tolerance) ⌝ }
 {
     let a = thinning::age(b, Tolerance(tolerance));
     count_of(a)
@@ -176,7 +176,7 @@ pub extern "C" fn trails_age(b: &mut [u8], tolerance: u16) -> Answer
 // Ages the record at the start of the buffer by days.
 #[no_mangle]
 pub extern "C" fn trails_age_by_days(b: &mut [u8], days: u16) -> Answer
-    ensures { λ r. ⌜ (r ≡ answer (days-answer (now (b .entry)) days)) × (now (b .exit) ≡ aged-by-days (now (b .entry)) days) ⌝ }
+    ensures { λ r. ⌜ (r ≡ value-numbers (days-answer (now (b .entry)) days)) × (now (b .exit) ≡ aged-by-days (now (b .entry)) days) ⌝ }
 {
     let a = thinning::age_by_days(b, Days(days));
     count_of(a)

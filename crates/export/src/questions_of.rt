@@ -16,10 +16,10 @@ ghost use Rattle.moment.specs.Moment.{place-answer};
 ghost use Rattle.crossing.specs.Crossing.{cross-answer};
 ghost use Rattle.questions.specs.Agings.{run, calls-of};
 ghost use Rattle.questions.specs.Claim.{Claim};
-ghost use Rattle.export.specs.Interface.{spot, crossing, box};
+ghost use Rattle.export.specs.Interface.{spot-numbers, crossing-numbers, box-of};
 
 fn spot_of(p: Placed) -> Spot
-    ensures { λ r. ⌜ r ≡ spot (placed p) ⌝ }
+    ensures { λ r. ⌜ r ≡ spot-numbers (placed p) ⌝ }
 {
     match p {
         Placed::At(s) => {
@@ -45,7 +45,7 @@ fn spot_of(p: Placed) -> Spot
 }
 
 fn crossing_of(c: Crossed) -> Crossing
-    ensures { λ r. ⌜ r ≡ crossing (crossed c) ⌝ }
+    ensures { λ r. ⌜ r ≡ crossing-numbers (crossed c) ⌝ }
 {
     match c {
         Crossed::Told(n, d) => Crossing {
@@ -79,7 +79,7 @@ fn window(start: u32, end: u32) -> Window
 }
 
 fn edges(left: i32, right: i32, bottom: i32, top: i32) -> Edges
-    ensures { λ r. ⌜ boxOf r ≡ box left right bottom top ⌝ }
+    ensures { λ r. ⌜ boxOf r ≡ box-of left right bottom top ⌝ }
 {
     Edges {
         left: Edge(left),
@@ -92,7 +92,7 @@ fn edges(left: i32, right: i32, bottom: i32, top: i32) -> Edges
 // Where the trail is, so many thousandths after a second.
 #[no_mangle]
 pub extern "C" fn trails_place(b: &[u8], second: u32, thousandths: u16) -> Spot
-    ensures { λ r. ⌜ r ≡ spot (place-answer trail (now (b .entry)) second thousandths) ⌝ }
+    ensures { λ r. ⌜ r ≡ spot-numbers (place-answer trail (now (b .entry)) second thousandths) ⌝ }
 {
     let p = moment::place(b, Seconds(second), thousandths);
     spot_of(p)
@@ -109,7 +109,7 @@ pub extern "C" fn trails_crosses(
     bottom: i32,
     top: i32,
 ) -> Crossing
-    ensures { λ r. ⌜ r ≡ crossing (cross-answer trail (now (b .entry)) start end (box left right bottom top)) ⌝ }
+    ensures { λ r. ⌜ r ≡ crossing-numbers (cross-answer trail (now (b .entry)) start end (box-of left right bottom top)) ⌝ }
 {
     let c = crossing::crosses(b, window(start, end), edges(left, right, bottom, top));
     crossing_of(c)
@@ -135,7 +135,7 @@ pub extern "C" fn trails_crosses_after(
     bottom: i32,
     top: i32,
 ) -> Crossing
-    ensures { λ r. ⌜ (now (b .exit) ≡ run (now (b .entry)) (calls-of (now (calls .entry)))) × (r ≡ crossing (cross-answer trail (run (now (b .entry)) (calls-of (now (calls .entry)))) start end (box left right bottom top))) × (IsAccepted trail (now (b .entry)) → mark-field (now (b .entry)) ≡ never → Claim (now (b .entry)) (calls-of (now (calls .entry)))) ⌝ }
+    ensures { λ r. ⌜ (now (b .exit) ≡ run (now (b .entry)) (calls-of (now (calls .entry)))) × (r ≡ crossing-numbers (cross-answer trail (run (now (b .entry)) (calls-of (now (calls .entry)))) start end (box-of left right bottom top))) × (IsAccepted trail (now (b .entry)) → mark-field (now (b .entry)) ≡ never → Claim (now (b .entry)) (calls-of (now (calls .entry)))) ⌝ }
 {
     let c = questions::crosses_after(
         b,

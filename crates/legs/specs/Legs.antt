@@ -1,6 +1,10 @@
--- THE CROSSING COMPUTED, leg by leg: at which times of a leg each condition holds, and the first time at which all do.
+-- ONE LEG COMPUTED: at which times of a leg each condition of a crossing holds, and the first time at which all do.
 -- Times are seconds after the first fix, as fractions over |x_j − x_i|, |y_j − y_i| or 1, not reduced. Places are counted from −limit on,
--- so that no number is negative. What all this means stands in Crossing.antt; the law that joins the two is `crossing-means` of Laws/Crossing.antt.
+-- so that no number is negative. What a crossing means stands in crossing/specs/Crossing.antt; that what is computed here means it is `leg-said` of
+-- Laws/Legs.antt for a leg and `crossing-means` of the crossing's Laws/Crossing.antt for a trail.
+-- `-` is the library's on natural numbers, which stops at 0. Each place below says why that is right there.
+-- `declared.X` is the struct X of the code, and `.0` the number in a struct of one field: Raised, a fix as above; Frame, a box as above; Times, from a first
+-- to a last fraction.
 use mathlib.Core.Bool.{cond}
 use mathlib.Core.Option.{Option, some, none}
 use Prim.Native.Nat.{ℕ, _+_, _*_, _-_}
@@ -45,15 +49,22 @@ first-of t = cond (leb (t .first .num * t .last .den) (t .last .num * t .first .
 abbrev pub moving : (A D v n m : ℕ) → Times
 moving A D v n m = times (A * v + D * n) (A * v + D * m) v
 
+-- Times after the leg's end may be among these; `leg-times` cuts them off.
 unfoldable pub axis-times : (A D a b low high : ℕ) → Times
 axis-times A D a b low high =
     cond (ltb a b)
+    -- rising, and above the high edge from the start: never. Else from the low edge to the high one: low − a stops at 0 where the leg starts above the low
+    -- edge, which is its start; the others are differences of the greater and the less.
     (cond (ltb high a) no-times (moving A D (b - a) (low - a) (high - a)))
+    -- not rising, and below the low edge from the start: never
     (cond (ltb a low) no-times
+    -- falling: from the high edge to the low one; a − high stops at 0 where the leg starts below the high edge, which is its start
     (cond (ltb b a) (moving A D (a - b) (a - high) (a - low))
+    -- at rest: never above the high edge, else all of the leg
     (cond (ltb high a) no-times (times A (A + D) 1))))
 
 -- ---- a leg, in a window from second w to second v after the first fix
+-- A leg ends no earlier than it begins, so its seconds are a difference of the greater and the less.
 unfoldable pub leg-times : (a b : Raised) (f : Frame) (w v : ℕ) → Times
 leg-times a b f w v =
     let A = a .t .0 in
@@ -65,12 +76,13 @@ leg-times a b f w v =
 unfoldable pub leg-first : (a b : Raised) (f : Frame) (w v : ℕ) → Option Fraction
 leg-first a b f w v = first-of (leg-times a b f w v)
 
--- ---- a place counted from −limit on, a fix in seconds after `zero`, a box
+-- ---- a place counted from −limit on, which no checked place is below (`counts` of Laws/Legs.antt); a fix in seconds after the first one's, which is the
+-- earliest; and a box
 abbrev pub offset-of : (limit : ℕ) → ℤ → ℕ
 offset-of limit z = natAbs (z +ℤ pos limit)
 
-abbrev pub raised : (limit zero : ℕ) → Fix → Raised
-raised limit zero a = record { t = record { 0 = a .t - zero }; x = record { 0 = offset-of limit (a .x) }; y = record { 0 = offset-of limit (a .y) } }
+abbrev pub raised : (limit first : ℕ) → Fix → Raised
+raised limit first a = record { t = record { 0 = a .t - first }; x = record { 0 = offset-of limit (a .x) }; y = record { 0 = offset-of limit (a .y) } }
 
 abbrev pub framed : (limit : ℕ) → Box → Frame
 framed limit b = record {

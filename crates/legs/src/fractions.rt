@@ -1,11 +1,11 @@
 // Times as fractions of seconds after the first fix, compared by cross-multiplying.
-use crate::Found;
 use crate::Fraction;
+use crate::Meeting;
 use crate::Times;
 ghost use mathlib.Core.Path.{_≡_};
 ghost use Prim.Native.Nat.{_*_, _-_};
 ghost use Rattle.legs.specs.Legs.{times, later-of, earlier-of, both, first-of};
-ghost use Rattle.legs.specs.Answers.{found};
+ghost use Rattle.legs.specs.Answers.{meeting};
 
 // n·d, which fits
 fn product(n: u32, d: u16) -> u64
@@ -44,15 +44,15 @@ pub(crate) fn both(s: Times, t: Times) -> Times
     }
 }
 
-pub(crate) fn first_of(t: Times) -> Found
-    ensures { λ r. ⌜ found r ≡ first-of t ⌝ }
+pub(crate) fn first_of(t: Times) -> Meeting
+    ensures { λ r. ⌜ meeting r ≡ first-of t ⌝ }
 {
     let f = t.first;
     let l = t.last;
     if product(f.num, l.den) <= product(l.num, f.den) {
-        return Found::At(f);
+        return Meeting::At(f);
     }
-    Found::Never
+    Meeting::Never
 }
 
 pub(crate) fn times(n: u32, m: u32, d: u16) -> Times

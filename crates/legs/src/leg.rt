@@ -1,7 +1,7 @@
 // One leg: the times at which each axis is between its edges, and the first time at which all conditions hold.
 use crate::Extent;
-use crate::Found;
 use crate::Frame;
+use crate::Meeting;
 use crate::Offset;
 use crate::Raised;
 use crate::Times;
@@ -16,7 +16,7 @@ ghost use mathlib.Core.Path.{_≡_};
 ghost use Prim.Native.Nat.{_+_, _*_, _-_, _≤_};
 ghost use Rattle.distance.specs.Fix.{fixOf};
 ghost use Rattle.legs.specs.Legs.{times, both, moving, axis-times, leg-times, leg-first, offset-of, raised};
-ghost use Rattle.legs.specs.Answers.{found};
+ghost use Rattle.legs.specs.Answers.{meeting};
 ghost use Rattle.legs.specs.Laws.Legs.{InLimit};
 ghost use Rattle.legs.specs.Laws.Ranges.{Clock, Reach};
 
@@ -97,9 +97,9 @@ fn leg_times(a: Raised, b: Raised, f: Frame, opens: Duration, closes: Duration) 
 }
 
 // The first time of the leg and of the window, from `opens` to `closes`, at which the leg is in the box.
-pub fn leg_first(a: Raised, b: Raised, f: Frame, opens: Duration, closes: Duration) -> Found
+pub fn leg_first(a: Raised, b: Raised, f: Frame, opens: Duration, closes: Duration) -> Meeting
     requires { ⌜ a .t .0 ≤ b .t .0 ⌝ }
-    ensures { λ r. ⌜ found r ≡ leg-first a b f (opens .0) (closes .0) ⌝ }
+    ensures { λ r. ⌜ meeting r ≡ leg-first a b f (opens .0) (closes .0) ⌝ }
 {
     first_of(leg_times(a, b, f, opens, closes))
 }

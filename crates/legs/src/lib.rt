@@ -43,7 +43,7 @@ pub struct Times {
 }
 
 // The first time of some, or none.
-pub enum Found {
+pub enum Meeting {
     At(Fraction),
     Never,
 }

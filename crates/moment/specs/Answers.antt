@@ -8,7 +8,7 @@ use Rattle.moment.specs.Moment.{Standing}
 
 -- The fraction (x/d, y/d), and the rounded place beside it.
 abbrev pub standing : Spot → Standing
-standing s = record { exact = record { x = s .x; y = s .y; d = pos (s .d) }; x = s .whole .x .0; y = s .whole .y .0 }
+standing s = record { exact = record { x = s .x; y = s .y; d = pos (s .d) }; rounded-x = s .whole .x .0; rounded-y = s .whole .y .0 }
 
 abbrev pub placed : Placed → Answer Standing
 placed (Place.At s) = gives (standing s)

@@ -37,12 +37,13 @@ at-moment (i ∷ l) s m = moment-from i l s m
 -- The answer: the fraction, and "Beside it stands the rounded place".
 pub record Standing : Type 0 where
   pub exact : Place
-  pub x : ℤ
-  pub y : ℤ
+  pub rounded-x : ℤ
+  pub rounded-y : ℤ
 
 abbrev pub beside : Place → Standing
-beside P = record { exact = P; x = rounded (P .x) (P .d); y = rounded (P .y) (P .d) }
+beside P = record { exact = P; rounded-x = rounded (P .x) (P .d); rounded-y = rounded (P .y) (P .d) }
 
+-- What the call does not take decides nothing (`placing-alone` of the record's Laws/First.antt).
 abbrev pub asked-moment : (s m : ℕ) → Given
 asked-moment s m = record {
   tolerance = nothing .tolerance;

@@ -5,10 +5,9 @@ use mathlib.Core.Option.{Option, some, none}
 use mathlib.Core.Bool.{cond}
 use Prim.Native.Nat.{ℕ, _%_, max}
 use lib.Dec.{ltb}
-use Rattle.distance.specs.Fix.{Fix}
+use Rattle.distance.specs.Fix.{Fix, last-of}
 use Rattle.distance.specs.Place.{Time, From, Until}
 use Rattle.format.specs.Format.{never}
-use Rattle.record.specs.Checks.{last-fix}
 use Rattle.thinning.specs.Thinning.{thinned}
 use Rattle.thinning.specs.Aging.{Call, by-tolerance, by-days, left-by, applies}
 
@@ -49,14 +48,14 @@ unfoldable pub mark-of : Option ℕ → ℕ
 mark-of none = never
 mark-of (some E) = E
 
-unfoldable pub worth : Option ℕ → ℕ
-worth none = 0
-worth (some E) = E
+unfoldable pub counts-as : Option ℕ → ℕ
+counts-as none = 0
+counts-as (some E) = E
 
 -- A time that is asked of a trail: from its first fix to its last.
 abbrev pub AskedOf : List Fix → Time → Type 0
 AskedOf [] u = ⊥
-AskedOf (a ∷ l) u = From (a .t) u × Until ((last-fix a l) .t) u
+AskedOf (a ∷ l) u = From (a .t) u × Until ((last-of a l) .t) u
 
 -- ---- a list of calls as numbers: below 65,536 a tolerance, from there on 65,536 and days. Every number is a call, and every list of calls of 16
 -- bits is one of numbers (`numbers-of` of Laws/Agings.antt).

@@ -14,7 +14,7 @@ use Rattle.record.specs.Answers.{Answer, gives, turns-away}
 use Rattle.thinning.specs.Aging.{Call}
 use Rattle.legs.specs.declared.Fraction.{Fraction}
 use Rattle.crossing.specs.Crossing.{Told, Denied, after-first, asked-crossing, cross-answer}
-use Rattle.questions.specs.Agings.{Book, new-book, fed-all, run, kept-at, mark-of, worth, AskedOf}
+use Rattle.questions.specs.Agings.{Book, new-book, fed-all, run, kept-at, mark-of, counts-as, AskedOf}
 
 -- What the crossing's answer on the aged record c says of the original, for one window from s to e and one box.
 pub data CrossingSays (E : ℕ) (original : List Fix) (c : List ℕ) (s e : ℕ) (box : Box) : Answer (Option Fraction) → Type 0 where
@@ -30,8 +30,8 @@ pub data CrossingSays (E : ℕ) (original : List Fix) (c : List ℕ) (s e : ℕ)
 abbrev pub book : List ℕ → List Call → Book
 book b calls = fed-all (new-book (fixes trail b)) calls
 
-abbrev pub worth-of : List ℕ → List Call → ℕ
-worth-of b calls = worth ((book b calls) .E)
+abbrev pub bound-after : List ℕ → List Call → ℕ
+bound-after b calls = counts-as ((book b calls) .E)
 
 pub record Claim (b : List ℕ) (calls : List Call) : Type 0 where
   -- the book's fixes are the original's
@@ -46,6 +46,6 @@ pub record Claim (b : List ℕ) (calls : List Call) : Type 0 where
   -- the places below have denominators of at least 1: comparisons are multiplied out by them, and of any two places over 0 `Near` would hold
   pub denominators : (u : Time) → Proper (place ((book b calls) .original) u) × Proper (place (fixes trail (run b calls)) u)
   -- at every fractional time from first to last the two places are at most E apart
-  pub near : (u : Time) → AskedOf ((book b calls) .original) u → Near (worth-of b calls) (place ((book b calls) .original) u) (place (fixes trail (run b calls)) u)
+  pub near : (u : Time) → AskedOf ((book b calls) .original) u → Near (bound-after b calls) (place ((book b calls) .original) u) (place (fixes trail (run b calls)) u)
   -- a crossing told or denied is true of the original within E
-  pub crossings : (s e : ℕ) (box : Box) → CrossingSays (worth-of b calls) ((book b calls) .original) (run b calls) s e box (cross-answer trail (run b calls) s e box)
+  pub crossings : (s e : ℕ) (box : Box) → CrossingSays (bound-after b calls) ((book b calls) .original) (run b calls) s e box (cross-answer trail (run b calls) s e box)

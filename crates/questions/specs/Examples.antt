@@ -13,11 +13,11 @@ use Rattle.distance.specs.Box.{Box}
 use Rattle.distance.specs.Laws.All.{all-none, all-more}
 use Rattle.format.specs.Bytes.{number-at, bytes-of, signed, unsigned}
 use Rattle.format.specs.Format.{trail, never, mark-field, fix-at, each, fix-bytes, all-bytes, header-bytes, record-bytes}
-use Rattle.record.specs.Checks.{IsAccepted, sentence, first, some-outside, some-early-after, some-early, last-fix, of-ends}
+use Rattle.record.specs.Checks.{IsAccepted, sentence, first, some-outside, some-early-after, some-early, of-ends}
 use Rattle.record.specs.Answers.{Answer, gives, turns-away}
 use Rattle.format.specs.Laws.Numbers.{false-true}
 use Rattle.format.specs.Laws.RoundTrip.{AreBytes}
-use Rattle.thinning.specs.Thinning.{sooner, furthest, every, but-last, last, thin-span, thin, thinning}
+use Rattle.thinning.specs.Thinning.{sooner, furthest, every, but-last, thin-span, thin, thinning}
 use Rattle.thinning.specs.Aging.{Call, by-tolerance, by-days, new-mark, thinned-record, last-row}
 use Rattle.legs.specs.declared.Fraction.{Fraction}
 use Rattle.crossing.specs.Crossing.{first-crossing, first-from, cross-answer}
@@ -25,6 +25,7 @@ use Rattle.legs.specs.Legs.{leg-first, leg-times, axis-times, first-of, later-o
 use Rattle.questions.specs.Agings.{run}
 use Rattle.questions.specs.Claim.{Claim}
 use Rattle.questions.specs.Laws.Claim.{claim}
+use Rattle.distance.specs.Fix.{last-of}
 
 abbrev pub lent : List ℕ
 lent =
@@ -68,7 +69,7 @@ straight-at-0 =
 
 -- ---- what the claim asks
 pub lent-accepted : IsAccepted trail lent
-unfolding first sentence some-outside some-early-after some-early last-fix of-ends fix-at each number-at signed
+unfolding first sentence some-outside some-early-after some-early last-of of-ends fix-at each number-at signed
 lent-accepted = record { accepted = refl }
 
 all-below : List ℕ → Bool
@@ -126,7 +127,7 @@ expected [] = []
 expected (r ∷ l) = r .bytes ∷ expected l
 
 pub examples : computed cases ≡ expected cases
-unfolding run thinned-record new-mark last-row thinning thin thin-span furthest sooner every but-last last deviation allowance first sentence some-outside some-early-after some-early last-fix of-ends fix-at each number-at signed unsigned bytes-of fix-bytes all-bytes header-bytes record-bytes
+unfolding run thinned-record new-mark last-row thinning thin thin-span furthest sooner every but-last last-of deviation allowance first sentence some-outside some-early-after some-early of-ends fix-at each number-at signed unsigned bytes-of fix-bytes all-bytes header-bytes record-bytes
 examples = refl
 
 -- ---- the crossing on it: the original reaches x = 20, what is left at 25 does not
@@ -137,5 +138,5 @@ abbrev pub answers : List (Answer (Option Fraction))
 answers = cross-answer trail lent 0 30 shelf ∷ cross-answer trail left-at-25 0 30 shelf ∷ cross-answer trail lent 0 31 shelf ∷ []
 
 pub crossings : answers ≡ gives (some (record { num = 100; den = 20 })) ∷ gives none ∷ turns-away 13 ∷ []
-unfolding first sentence some-outside some-early-after some-early last-fix of-ends fix-at each number-at signed first-crossing first-from leg-first leg-times axis-times first-of later-of earlier-of
+unfolding first sentence some-outside some-early-after some-early last-of of-ends fix-at each number-at signed first-crossing first-from leg-first leg-times axis-times first-of later-of earlier-of
 crossings = refl

@@ -9,16 +9,16 @@ use Prim.Native.Nat.{ℕ, _*_, _≤_}
 use native.Mathlib.Omega.{arith}
 use lib.ListN.{length, take, drop}
 use lib.IntN.{ℤ, pos, negℤ}
-use Rattle.distance.specs.Fix.{Fix}
+use Rattle.distance.specs.Fix.{Fix, last-of}
 use Rattle.distance.specs.Distance.{deviation, allowance}
 use Rattle.distance.specs.Box.{Box}
 use Rattle.distance.specs.Place.{own}
 use Rattle.format.specs.Bytes.{number-at, bytes-of, signed, unsigned}
 use Rattle.format.specs.Format.{trail, never, mark-field, record-length, fixes, fix-at, each, fix-bytes, all-bytes, header-bytes, record-bytes}
-use Rattle.record.specs.Checks.{first, sentence, some-outside, some-early, some-early-after, of-ends, last-fix, read-refusal}
+use Rattle.record.specs.Checks.{first, sentence, some-outside, some-early, some-early-after, of-ends, read-refusal}
 use Rattle.record.specs.Answers.{Answer, gives, turns-away, answer}
 use Rattle.writing.specs.Writing.{write-refusal, written}
-use Rattle.thinning.specs.Thinning.{sooner, furthest, every, but-last, last, thin-span, thin, thinning}
+use Rattle.thinning.specs.Thinning.{sooner, furthest, every, but-last, thin-span, thin, thinning}
 use Rattle.thinning.specs.Aging.{by-tolerance, left-by, answered, new-mark, thinned-record}
 use Rattle.legs.specs.declared.Fraction.{Fraction}
 use Rattle.moment.specs.Rounding.{floored, rounded}
@@ -90,8 +90,8 @@ Entry write = Unit
 Entry read = Unit
 
 -- A row: the trail, what is asked, and what the table gives, or the number of the refusal.
-pub data Row : Type 0 where
-  row : List Fix → (q : Question) → Answer (Entry q) → Row
+pub data WorkedRow : Type 0 where
+  row : List Fix → (q : Question) → Answer (Entry q) → WorkedRow
 
 -- ---- WHAT A ROW SAYS
 -- The fixes of a trail at these positions.
@@ -125,16 +125,16 @@ Agrees l write a g = Unit
 Agrees l read a g = Unit
 
 -- Both give, and what they give agrees; or both are the same refusal.
-abbrev pub Same : {A B : Type 0} → (A → B → Type 0) → Answer A → Answer B → Type 0
-Same agrees (gives a) (gives g) = agrees a g
-Same agrees (turns-away k) (turns-away n) = k ≡ n
-Same agrees (gives a) (turns-away n) = ⊥
-Same agrees (turns-away k) (gives g) = ⊥
+abbrev pub SameAnswer : {A B : Type 0} → (A → B → Type 0) → Answer A → Answer B → Type 0
+SameAnswer agrees (gives a) (gives g) = agrees a g
+SameAnswer agrees (turns-away k) (turns-away n) = k ≡ n
+SameAnswer agrees (gives a) (turns-away n) = ⊥
+SameAnswer agrees (turns-away k) (gives g) = ⊥
 
-abbrev pub Holds : Row → Type 0
-Holds (row l q g) = Same (Agrees l q) (reply l q) g
+abbrev pub Holds : WorkedRow → Type 0
+Holds (row l q g) = SameAnswer (Agrees l q) (reply l q) g
 
-abbrev pub AllHold : List Row → Type 0
+abbrev pub AllHold : List WorkedRow → Type 0
 AllHold [] = Unit
 AllHold (r ∷ l) = Holds r × AllHold l
 
@@ -151,16 +151,16 @@ keeps ks c m = gives (record { positions = ks; count-given = c; mark-given = m }
 
 -- x and y over d, and the rounded place
 abbrev pub stands-at : (x y d rounded-x rounded-y : ℤ) → Answer Standing
-stands-at x y d rx ry = gives (record { exact = record { x = x; y = y; d = d }; x = rx; y = ry })
+stands-at x y d rx ry = gives (record { exact = record { x = x; y = y; d = d }; rounded-x = rx; rounded-y = ry })
 
 abbrev pub yes-at : (n d : ℕ) → Answer (Option Fraction)
 yes-at n d = gives (some (fraction n d))
 
-abbrev pub denied : Answer (Option Fraction)
-denied = gives none
+abbrev pub no-crossing : Answer (Option Fraction)
+no-crossing = gives none
 
-abbrev pub passes : Answer Unit
-passes = gives tt
+abbrev pub nothing-refused : Answer Unit
+nothing-refused = gives tt
 
 -- the trails that are named in more than one row
 abbrev pub trail-c : List Fix
@@ -185,7 +185,7 @@ abbrev pub span : ℕ → List Fix
 span s = fix 0 0 0 ∷ fix s 0 0 ∷ []
 
 -- ---- THE TABLE, each row below its words
-abbrev pub rows : List Row
+abbrev pub rows : List WorkedRow
 rows =
     -- a | (5,1,1), e 0 | all kept, count 0
     row (fix 5 1 1 ∷ []) (age-at (0 ∷ [])) (keeps (0 ∷ []) (some 0) none)
@@ -214,17 +214,17 @@ rows =
     ∷ []
 
 -- ---- THE LINE BELOW IT
-abbrev pub rows-below : List Row
+abbrev pub rows-below : List WorkedRow
 rows-below =
     -- "Trail l with window 4..10: yes, 4; with 5..10: no."
     row trail-l (cross box-l 4 10) (yes-at 4 1)
-    ∷ row trail-l (cross box-l 5 10) denied
+    ∷ row trail-l (cross box-l 5 10) no-crossing
     -- "Tolerance 32,000 passes, 32,001 is 10.", of trail c, whose middle fix then goes
     ∷ row trail-c (age-at (32000 ∷ [])) (keeps (0 ∷ 2 ∷ []) none none)
     ∷ row trail-c (age-at (32001 ∷ [])) (turns-away 10)
     -- "Span 65,535 passes, 65,536 is 9."
-    ∷ row (span 65535) write passes
-    ∷ row (span 65535) read passes
+    ∷ row (span 65535) write nothing-refused
+    ∷ row (span 65535) read nothing-refused
     ∷ row (span 65536) write (turns-away 9)
     ∷ row (span 65536) read (turns-away 9)
     -- "Equal times are 8."
@@ -240,7 +240,7 @@ _and_ : {A B : Type 0} → A → B → A × B
 a and b = (a, b)
 
 pub worked : AllHold rows
-unfolding thinned-record new-mark thinning thin thin-span furthest sooner every but-last last deviation allowance first sentence some-outside some-early-after some-early last-fix of-ends fix-at each number-at signed unsigned bytes-of fix-bytes all-bytes header-bytes record-bytes at-moment moment-from on-leg own rounded floored first-crossing first-from leg-first leg-times axis-times first-of later-of earlier-of
+unfolding thinned-record new-mark thinning thin thin-span furthest sooner every but-last last-of deviation allowance first sentence some-outside some-early-after some-early of-ends fix-at each number-at signed unsigned bytes-of fix-bytes all-bytes header-bytes record-bytes at-moment moment-from on-leg own rounded floored first-crossing first-from leg-first leg-times axis-times first-of later-of earlier-of
 worked =
     (refl, refl, tt)
     and (refl, refl, tt)
@@ -257,7 +257,7 @@ worked =
     and tt
 
 pub worked-below : AllHold rows-below
-unfolding thinned-record new-mark thinning thin thin-span furthest sooner every but-last last deviation allowance first sentence some-outside some-early-after some-early last-fix of-ends fix-at each number-at signed unsigned bytes-of fix-bytes all-bytes header-bytes record-bytes at-moment moment-from on-leg own rounded floored first-crossing first-from leg-first leg-times axis-times first-of later-of earlier-of
+unfolding thinned-record new-mark thinning thin thin-span furthest sooner every but-last last-of deviation allowance first sentence some-outside some-early-after some-early of-ends fix-at each number-at signed unsigned bytes-of fix-bytes all-bytes header-bytes record-bytes at-moment moment-from on-leg own rounded floored first-crossing first-from leg-first leg-times axis-times first-of later-of earlier-of
 worked-below =
     record { same-value = refl; at-least = omega arith; at-most = omega arith }
     and tt

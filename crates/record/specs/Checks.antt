@@ -9,7 +9,7 @@ use lib.Dec.{ltb, leb, eqb}
 use lib.ListN.{length}
 use lib.IntN.{ℤ, pos, negℤ}
 use lib.Signed.{ltZ}
-use Rattle.distance.specs.Fix.{Fix}
+use Rattle.distance.specs.Fix.{Fix, last-of}
 use Rattle.distance.specs.Distance.{seconds}
 use Rattle.distance.specs.Box.{Box}
 use Rattle.format.specs.Format.{Kind, never, length-field, kind-field, mark-field, count-field, record-length, fixes}
@@ -62,15 +62,10 @@ unfoldable pub some-early : List Fix → Bool
 some-early [] = false
 some-early (f ∷ l) = some-early-after (f .t) l
 
--- the last of a list that begins with f
-unfoldable pub last-fix : Fix → List Fix → Fix
-last-fix f [] = f
-last-fix f (g ∷ l) = last-fix g l
-
 -- what a test says of the first and the last fix; check 3 has seen to it that there are some
 unfoldable pub of-ends : (Fix → Fix → Bool) → List Fix → Bool
 of-ends test [] = false
-of-ends test (f ∷ l) = test f (last-fix f l)
+of-ends test (f ∷ l) = test f (last-of f l)
 
 -- "The last time less the first is above 65,535."
 abbrev pub too-long : Fix → Fix → Bool

@@ -5,7 +5,6 @@ use mathlib.Core.Option.{Option, some, none}
 use Prim.Native.Nat.{ℕ, max}
 use lib.Dec.{leb, eqb}
 use lib.ListN.{length, drop}
-use lib.IntN.{pos}
 use Rattle.format.specs.Format.{trail, never, mark-field, record-length, fixes, record-bytes}
 use Rattle.record.specs.Checks.{Given, nothing, asked-of, refusal, aging, aging-by-days}
 use Rattle.record.specs.Answers.{Answer, answer, unless}
@@ -21,16 +20,16 @@ thinned-record b e =
     let kept = thinned e (fixes trail b) in
     record-bytes trail (new-mark (mark-field b) e) kept ++ drop (record-length trail (length kept)) b
 
--- ---- by tolerance: "Aging makes checks 1 to 10"
+-- ---- by tolerance: "Aging makes checks 1 to 10". What the call does not take decides nothing (`aging-alone` of the record's Laws/First.antt).
 abbrev pub with-tolerance : ℕ → Given
 with-tolerance e = record {
   tolerance = e;
-  second = 0;
-  thousandths = 0;
-  start = 0;
-  end = 0;
-  box = record { x-low = pos 0; x-high = pos 0; y-low = pos 0; y-high = pos 0 };
-  output = 0;
+  second = nothing .second;
+  thousandths = nothing .thousandths;
+  start = nothing .start;
+  end = nothing .end;
+  box = nothing .box;
+  output = nothing .output;
 }
 
 abbrev pub age-refusal : List ℕ → (e : ℕ) → Option ℕ
@@ -56,10 +55,10 @@ day-table =
     ∷ record { day = 90; row-tolerance = 400 }
     ∷ []
 
--- The tolerance of the last row whose day isn't above the asked one; `found` is what the rows before these gave.
+-- The tolerance of the last row whose day isn't above the asked one; `so-far` is what the rows before these gave.
 unfoldable pub last-row : Option ℕ → List Row → (days : ℕ) → Option ℕ
-last-row found [] days = found
-last-row found (r ∷ rows) days = last-row (cond (leb (r .day) days) (some (r .row-tolerance)) found) rows days
+last-row so-far [] days = so-far
+last-row so-far (r ∷ rows) days = last-row (cond (leb (r .day) days) (some (r .row-tolerance)) so-far) rows days
 
 -- "Days 0 and 1 apply no tolerance"
 abbrev pub days-give : ℕ → Option ℕ

@@ -8,7 +8,7 @@ use mathlib.Core.List.{List, [], _∷_, _++_}
 use Prim.Native.Nat.{ℕ, zero, suc, _+_}
 use lib.Dec.{leb}
 use lib.ListN.{length}
-use Rattle.distance.specs.Fix.{Fix}
+use Rattle.distance.specs.Fix.{Fix, last-of}
 use Rattle.distance.specs.Distance.{deviation, allowance}
 
 -- Where a span is split: nowhere, if it has no inner fix; else at one of them, with those before it and those after it.
@@ -31,15 +31,10 @@ module _ {A : Type 0} where
   every t [] = true
   every t (m ∷ l) = t m && every t l
 
-  -- of the fixes m ∷ l: all but the last ..
+  -- of the fixes m ∷ l: all but the last
   unfoldable pub but-last : A → List A → List A
   but-last m [] = []
   but-last m (n ∷ l) = m ∷ but-last n l
-
-  -- .. and the last
-  unfoldable pub last : A → List A → A
-  last m [] = m
-  last m (n ∷ l) = last n l
 
 -- The fixes that stay, and the count: "one for each inner fix measured in each span examined".
 pub record Thinned (A : Type 0) : Type 0 where
@@ -72,7 +67,7 @@ module _ {A : Type 0} (far : (i m j : A) → ℕ) (bound : (e : ℕ) (i j : A) �
   thin e (i ∷ []) = record { kept = i ∷ []; count = 0 }
   thin e (i ∷ m ∷ l) =
       let inner = but-last m l in
-      let j = last m l in
+      let j = last-of m l in
       let between = thin-span (length inner) e i inner j in
       record { kept = i ∷ (between .kept ++ j ∷ []); count = between .count }
 

@@ -16,13 +16,13 @@ ghost use Rattle.thinning.specs.Thinning.{thinning};
 ghost use Rattle.thinning.specs.Laws.Pack.{Packed};
 
 // The furthest inner fix of a span: its position, and its Nx² + Ny².
-struct Found {
+struct FurthestFix {
     at: usize,
     value: u64,
 }
 
 // One pass over the inner fixes of the span from position lo to position hi. Only a greater value takes the place of an earlier one.
-fn furthest(b: &[u8], lo: usize, hi: usize) -> Found
+fn furthest(b: &[u8], lo: usize, hi: usize) -> FurthestFix
     requires { ⌜ (lo + 1 < hi) × (18 + 8 * hi ≤ length (now b)) × Spans (fix-at trail (now b)) (hi + 1) ⌝ }
     ensures { λ r. ⌜ Furthest (λ x. deviation (fix-at trail (now (b .entry)) lo) (fix-at trail (now (b .entry)) x) (fix-at trail (now (b .entry)) hi)) lo hi (r .at) (r .value) ⌝ }
 {
@@ -39,7 +39,7 @@ fn furthest(b: &[u8], lo: usize, hi: usize) -> Found
         }
         k += 1;
     }
-    Found { at, value }
+    FurthestFix { at, value }
 }
 
 // What the furthest may be, for all inner fixes of the span to be within e.

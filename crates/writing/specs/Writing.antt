@@ -9,10 +9,11 @@ use lib.IntN.{ℤ, pos}
 use Rattle.distance.specs.Fix.{Fix, fixOf}
 use Rattle.distance.specs.declared.Fix.{Fix as CodeFix}
 use Rattle.format.specs.Format.{Kind, never, mark-field, record-length, each, fixes, record-bytes}
-use Rattle.record.specs.Checks.{Asked, refusal, writing, IsAccepted}
+use Rattle.record.specs.Checks.{Asked, nothing, refusal, writing, IsAccepted}
 use Rattle.record.specs.Answers.{Answer, answer, unless}
 
--- What is asked of a list of fixes. Its checks 3, 7, 8, 9 and 15 look at the count, the fixes and the output, and at nothing else.
+-- What is asked of a list of fixes. Checks 3, 7, 8, 9 and 15 look at the count, the fixes and the output; there are no bytes yet, so the rest is 0 and
+-- `nothing`, and decides nothing (`writing-alone` of the record's Laws/First.antt).
 abbrev pub asked-to-write : List Fix → (output : ℕ) → Asked
 asked-to-write l output = record {
   lent = 0;
@@ -21,7 +22,15 @@ asked-to-write l output = record {
   mark = 0;
   count = length l;
   trail-fixes = l;
-  given = record { tolerance = 0; second = 0; thousandths = 0; start = 0; end = 0; box = record { x-low = pos 0; x-high = pos 0; y-low = pos 0; y-high = pos 0 }; output = output };
+  given = record {
+    tolerance = nothing .tolerance;
+    second = nothing .second;
+    thousandths = nothing .thousandths;
+    start = nothing .start;
+    end = nothing .end;
+    box = nothing .box;
+    output = output;
+  };
 }
 
 abbrev pub write-refusal : Kind → List Fix → List ℕ → Option ℕ

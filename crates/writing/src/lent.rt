@@ -10,7 +10,7 @@ ghost use Rattle.record.specs.Checks.{first, sentence, fix-checks};
 ghost use Rattle.writing.specs.Writing.{asked-to-write, lent-fixes, write-refusal, write-answer, written, ReadsBack};
 ghost use Rattle.record.specs.Answers.{refused};
 ghost use Rattle.writing.specs.Answers.{wrote};
-ghost use Rattle.writing.specs.Laws.Passing.{Task, checks, Passed, Room-for, Ready, Finished, stage-answer, no-fix};
+ghost use Rattle.writing.specs.Laws.Passing.{Task, checks, Passed, Room-for, Prepared, Finished, stage-answer, no-fix};
 use crate::Written;
 use crate::write_says;
 use distance::Fix;
@@ -67,7 +67,7 @@ fn stage_checked(p: Stage) -> Checked
 
 // All of the writer's checks, between the passes over n fixes; the head is put down if none turns the list away.
 fn stage_ready(out: &mut [u8], n: usize, p: Stage) -> Stage
-    ensures { λ r. ⌜ ((s : List Plain) → length s ≡ n → Passed checks (now (out .entry)) s p (now (out .entry)) → Ready s (now (out .entry)) r (now (out .exit))) ⌝ }
+    ensures { λ r. ⌜ ((s : List Plain) → length s ≡ n → Passed checks (now (out .entry)) s p (now (out .entry)) → Prepared s (now (out .entry)) r (now (out .exit))) ⌝ }
 {
     let v = write_says(n, stage_checked(p), out.len());
     match v {

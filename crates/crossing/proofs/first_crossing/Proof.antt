@@ -1,7 +1,7 @@
 use mathlib.Core.Path.{sym, _∙_, ap}
 use Prim.Native.Nat.{_-_}
 use native.Mathlib.Omega.{arith}
-use Rattle.legs.specs.Answers.{found}
+use Rattle.legs.specs.Answers.{meeting}
 use Rattle.record.specs.Laws.Trail.{lent}
 use Rattle.crossing.specs.Laws.Search.{Seek, first-reach, seek-start, seek-reach, seek-rises, seek-found, seek-next, seek-end}
 use borrow.Author.Needs.{needs}
@@ -30,7 +30,7 @@ enum-known-r : tie.Need-enum-known-r Inv-loop μ-loop
 enum-known-r c = search needs
 
 returns : tie.Need-returns Inv-loop μ-loop
-returns c = sym (seek-found (c .before .before .before .before .before .before .loop .inv) (c .before .before .before .before .before .loop-test .taken) (c .before .before .before .before .raised-at2 .ensures) _ (sym (c .before .before .before .leg-first .ensures) ∙ ap found (c .before .r .given .1)))
+returns c = sym (seek-found (c .before .before .before .before .before .before .loop .inv) (c .before .before .before .before .before .loop-test .taken) (c .before .before .before .before .raised-at2 .ensures) _ (sym (c .before .before .before .leg-first .ensures) ∙ ap meeting (c .before .r .given .1)))
 
 enum-told : tie.Need-enum-told Inv-loop μ-loop
 enum-told c = search needs
@@ -42,7 +42,7 @@ loop-less : tie.Need-loop-less Inv-loop μ-loop
 loop-less c = search needs
 
 loop-again : tie.Need-loop-again Inv-loop μ-loop
-loop-again c = seek-next (c .before .before .before .before .before .loop .inv) (c .before .before .before .before .loop-test .taken) (c .before .before .before .raised-at2 .ensures) (sym (c .before .before .leg-first .ensures) ∙ ap found (c .enum-told .given .1))
+loop-again c = seek-next (c .before .before .before .before .before .loop .inv) (c .before .before .before .before .loop-test .taken) (c .before .before .before .raised-at2 .ensures) (sym (c .before .before .leg-first .ensures) ∙ ap meeting (c .enum-told .given .1))
 
 leg-first-requires-2 : tie.Need-leg-first-requires-2 Inv-loop μ-loop
 leg-first-requires-2 c κs = search needs

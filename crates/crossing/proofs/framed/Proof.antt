@@ -1,6 +1,6 @@
 use mir.Facts.{toZ-ofZ}
 use mathlib.Core.Path.{_∙_}
-use Rattle.legs.specs.Laws.Ranges.{offset-fits}
+use Rattle.legs.specs.Laws.Ranges.{above-fits}
 use Rattle.crossing.specs.Laws.Search.{frame-parts}
 use borrow.Author.Needs.{needs}
 use Rattle.crossing.proofs.framed.Statement.{statement}
@@ -21,10 +21,10 @@ offset-of-requires-4 c κs = search needs
 returns : tie.Need-returns
 returns c =
     let n = c .before .before .before .before .before .before .before .before .before .before .before .before .pre in
-    let l = offset-fits (n .x-low) in
-    let r = offset-fits (n .x-high) in
-    let b = offset-fits (n .y-low) in
-    let t = offset-fits (n .y-high) in
+    let l = above-fits (n .x-low) in
+    let r = above-fits (n .x-high) in
+    let b = above-fits (n .y-low) in
+    let t = above-fits (n .y-high) in
     frame-parts _ _ _ _ _ _ _ _ (c .before .before .before .before .before .before .offset-of .ensures ∙ simp (toZ-ofZ, l .z32)) (c .before .before .before .before .offset-of2 .ensures ∙ simp (toZ-ofZ, r .z32))
     (c .before .before .offset-of3 .ensures ∙ simp (toZ-ofZ, b .z32)) (c .offset-of4 .ensures ∙ simp (toZ-ofZ, t .z32))
 

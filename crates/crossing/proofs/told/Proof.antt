@@ -1,7 +1,7 @@
 use mathlib.Core.Path.{sym, ap}
 use Rattle.record.specs.Answers.{gives}
-use Rattle.legs.specs.Answers.{found}
-use Rattle.legs.specs.declared.Found.{Found}
+use Rattle.legs.specs.Answers.{meeting}
+use Rattle.legs.specs.declared.Meeting.{Meeting}
 use borrow.Author.Needs.{needs}
 use Rattle.crossing.proofs.told.Statement.{statement}
 use Rattle.crossing.proofs.told.Tie as tie
@@ -13,10 +13,10 @@ enum-told : tie.Need-enum-told
 enum-told c = search needs
 
 returns : tie.Need-returns
-returns c = sym (ap (λ (r : Found). gives (found r)) (c .before .r .given .1))
+returns c = sym (ap (λ (r : Meeting). gives (meeting r)) (c .before .r .given .1))
 
 returns-2 : tie.Need-returns-2
-returns-2 c = sym (ap (λ (r : Found). gives (found r)) (c .enum-told .given .1))
+returns-2 c = sym (ap (λ (r : Meeting). gives (meeting r)) (c .enum-told .given .1))
 
 pub told-spec : {M : Type 1} → statement M
 told-spec = tie.close (tie.spec enum-known-r enum-told returns returns-2)

@@ -9,11 +9,11 @@ use lib.Dec.{ltb}
 use lib.IntN.{ℤ, pos, negℤ}
 use lib.Signed.{ltZ}
 use borrow.Author.Tests.{ltb-false}
-use Rattle.distance.specs.Fix.{Fix}
+use Rattle.distance.specs.Fix.{Fix, last-of}
 use Rattle.distance.specs.Box.{Box}
 use Rattle.distance.specs.Integers.Order.{le-of-ltZ}
 use Rattle.format.specs.Format.{trail, fix-at, count-field, fixes}
-use Rattle.record.specs.Checks.{Check, bad-window, bad-box, first, sentence, asked-of, head-checks, fix-checks, read-refusal, IsAccepted, refusal, crossing, outside, second-outside, last-fix}
+use Rattle.record.specs.Checks.{Check, bad-window, bad-box, first, sentence, asked-of, head-checks, fix-checks, read-refusal, IsAccepted, refusal, crossing, outside, second-outside}
 use Rattle.record.specs.Answers.{gives, turns-away, answer}
 use Rattle.record.specs.Laws.First.{stops, passes, first-none, some-first, none-first, none-front, none-holds, NoneHolds, no-check, and-not, reading-alone}
 use Rattle.record.specs.Laws.Head.{neither}
@@ -98,7 +98,7 @@ module _ (b : List ℕ) (s e : ℕ) (box : Box) where
     pub accepted-means : window-outside s e start end ≡ false → edges-outside box ≡ false → Means (fixes trail b) box s e (first-crossing 16000 (fixes trail b) box s e)
     accepted-means h k =
         let w = window-good s e start end h in
-        let l : end ≡ (last-fix (fix-at trail b 0) (from b 1 (count-field b))) .t = ap (λ (f : Fix). f .t) (sym (last-is b (count-field b))) in
+        let l : end ≡ (last-of (fix-at trail b 0) (from b 1 (count-field b))) .t = ap (λ (f : Fix). f .t) (sym (last-is b (count-field b))) in
         rw (fixes-from b some-fix) (crossing-means _ _ box s e (accepted-checked b accepted) (box-good box k) (record { from = w .from; order = w .order; to = omega (arith, w .to, l) }))
 
 -- ---- THE ANSWER ON LENT BYTES MEANS IT: whatever is given is told or denied of the record's fixes, the window and the box

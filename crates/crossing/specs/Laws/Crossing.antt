@@ -1,5 +1,5 @@
 -- THE COMPUTED CROSSING MEANS what the question means: told with the earliest time of the window, or denied.
-use mathlib.Core.Path.{_≡_, sym, ap}
+use mathlib.Core.Path.{_≡_, ap}
 use mathlib.Core.Logic.{_⊎_, inl, inr, ⊎-elim}
 use mathlib.Core.Bool.{Bool, cond}
 use mathlib.Core.List.{List, [], _∷_}
@@ -8,22 +8,19 @@ use Prim.Native.Nat.{ℕ, _+_, _*_, _-_, _≤_, _<_}
 use native.Mathlib.Nat.{mul-le-mul-right, mul-le-mul-left}
 use native.Mathlib.Omega.{arith}
 use borrow.Author.Tests.{le-leb}
-use Rattle.distance.specs.Fix.{Fix, After, rising}
-use Rattle.distance.specs.Place.{Time, Place, own, leg, place-from, place, Same}
+use Rattle.distance.specs.Fix.{Fix, After, rising, last-of}
+use Rattle.distance.specs.Place.{Time, own, leg, place-from, place}
 use Rattle.distance.specs.Box.{Box, In}
 use Rattle.distance.specs.Laws.Place.{leg-proper, own-proper, place-proper, leg-last, place-fix}
 use Rattle.distance.specs.Laws.Box.{in-same}
 use Rattle.distance.specs.Integers.Tests.{Test, holds, fails, test}
-use Rattle.record.specs.Checks.{last-fix}
 use Rattle.legs.specs.declared.Fraction.{Fraction}
 use Rattle.legs.specs.Legs.{leg-first, raised, framed}
 use Rattle.crossing.specs.Crossing.{or-else, first-from, first-crossing, Crosses, Means}
 use Rattle.legs.specs.Laws.Times.{Said, through, said-as}
-use Rattle.record.specs.Laws.Trail.{CheckedTrail, next, leg-of, first-placed}
+use Rattle.record.specs.Laws.Trail.{CheckedTrail, next, leg-of, first-bounded}
 use Rattle.legs.specs.Laws.Legs.{Open, LegIn, OwnIn, BoxInLimit, absolute, leg-means, alone-means}
-
-same-swap : {P Q : Place} → Same P Q → Same Q P
-same-swap h = record { same-x = sym (h .same-x); same-y = sym (h .same-y) }
+use Rattle.distance.specs.Laws.Near.{same-swap}
 
 -- ---- from fix a on: a time of the window, in seconds after z, at which the trail is in the box
 pub record Inside (z : ℕ) (box : Box) (w v : ℕ) (a : Fix) (l : List Fix) (u : Time) : Type 0 where
@@ -103,16 +100,16 @@ unfolding place-from
 inside-own z box w v a u h = record { from = h .from; window = h .window; inside = h .inside }
 
 -- ---- the whole trail from a on, in a window that ends with it
-from-means : (z : ℕ) (box : Box) (w v : ℕ) (a : Fix) (l : List Fix) → z ≤ a .t → CheckedTrail a l → v ≤ (last-fix a l) .t - z → BoxInLimit box
+from-means : (z : ℕ) (box : Box) (w v : ℕ) (a : Fix) (l : List Fix) → z ≤ a .t → CheckedTrail a l → v ≤ (last-of a l) .t - z → BoxInLimit box
     → Said (Inside z box w v a l) (first-from 16000 z a l (framed 16000 box) w v)
-unfolding first-from last-fix
+unfolding first-from last-of
 from-means z box w v a [] base c ends nb =
-    said-as (leg-first (raised 16000 z a) (raised 16000 z a) (framed 16000 box) w v) (own-inside z box w v a) (inside-own z box w v a) (alone-means z box w v a ends (first-placed a [] c) nb)
+    said-as (leg-first (raised 16000 z a) (raised 16000 z a) (framed 16000 box) w v) (own-inside z box w v a) (inside-own z box w v a) (alone-means z box w v a ends (first-bounded a [] c) nb)
 from-means z box w v a (b ∷ l) base c ends nb =
     let g = leg-of a b l c in
     let k = next a b l c in
     let r = g .rises in
-    said-or z box w v a b l base r (k .after) (leg-first (raised 16000 z a) (raised 16000 z b) (framed 16000 box) w v) (first-from 16000 z b l (framed 16000 box) w v) (leg-means z box w v a b base r (g .placed-a) (g .placed-b) nb) (from-means z box w v b l (omega arith) k ends nb)
+    said-or z box w v a b l base r (k .after) (leg-first (raised 16000 z a) (raised 16000 z b) (framed 16000 box) w v) (first-from 16000 z b l (framed 16000 box) w v) (leg-means z box w v a b base r (g .bounded-a) (g .bounded-b) nb) (from-means z box w v b l (omega arith) k ends nb)
 
 -- ---- on the fixes' own clock
 -- the window is of the trail's times
@@ -121,7 +118,7 @@ pub record GoodWindow (s e first last : ℕ) : Type 0 where
   pub order : s ≤ e
   pub to : e ≤ last
 
-module _ (box : Box) (s e : ℕ) (a : Fix) (l : List Fix) (q : GoodWindow s e (a .t) ((last-fix a l) .t)) where
+module _ (box : Box) (s e : ℕ) (a : Fix) (l : List Fix) (q : GoodWindow s e (a .t) ((last-of a l) .t)) where
   abbrev z : ℕ
   z = a .t
 
@@ -175,6 +172,6 @@ module _ (box : Box) (s e : ℕ) (a : Fix) (l : List Fix) (q : GoodWindow s e (a
       mul-sub-le u h d = let k : u .p - u .q * z + u .q * z ≡ u .p = omega (arith, not-before u h) in omega (arith, ap (λ (p : ℕ). p * d) k)
 
 -- THE LAW
-pub crossing-means : (a : Fix) (l : List Fix) (box : Box) (s e : ℕ) → CheckedTrail a l → BoxInLimit box → GoodWindow s e (a .t) ((last-fix a l) .t) → Means (a ∷ l) box s e (first-crossing 16000 (a ∷ l) box s e)
+pub crossing-means : (a : Fix) (l : List Fix) (box : Box) (s e : ℕ) → CheckedTrail a l → BoxInLimit box → GoodWindow s e (a .t) ((last-of a l) .t) → Means (a ∷ l) box s e (first-crossing 16000 (a ∷ l) box s e)
 unfolding first-crossing
 crossing-means a l box s e c nb q = means box s e a l q (first-from 16000 (a .t) a l (framed 16000 box) (s - a .t) (e - a .t)) (from-means (a .t) box (s - a .t) (e - a .t) a l (omega arith) c (omega (arith, q .to)) nb)

@@ -9,7 +9,7 @@ use lib.Dec.{ltb}
 use lib.Signed.{ltZ}
 use Rattle.distance.specs.Box.{Box}
 use Rattle.format.specs.Format.{trail, fix-at, count-field}
-use Rattle.record.specs.Checks.{IsAccepted, outside, last-fix}
+use Rattle.record.specs.Checks.{IsAccepted, outside}
 use Rattle.legs.specs.declared.Fraction.{Fraction}
 use Rattle.legs.specs.declared.Offset.{Offset}
 use Rattle.legs.specs.declared.Raised.{Raised}
@@ -17,7 +17,8 @@ use Rattle.legs.specs.declared.Frame.{Frame}
 use Rattle.legs.specs.Laws.Ranges.{Reach}
 use Rattle.legs.specs.Legs.{leg-first, raised}
 use Rattle.crossing.specs.Crossing.{or-else, first-from}
-use Rattle.record.specs.Laws.Trail.{CheckedTrail, from, from-next, from-end, next, leg-of, first-placed, last-after, accepted-checked, lent}
+use Rattle.record.specs.Laws.Trail.{CheckedTrail, from, from-next, from-end, next, leg-of, first-bounded, last-after, accepted-checked, lent}
+use Rattle.distance.specs.Fix.{last-of}
 
 -- ---- the checks of a window and of a box, of the trail's first and last time
 abbrev pub time-outside : (s first last : ℕ) → Bool
@@ -30,7 +31,7 @@ abbrev pub edges-outside : Box → Bool
 edges-outside b = outside 16000 (b .x-low) || (outside 16000 (b .x-high) || (outside 16000 (b .y-low) || (outside 16000 (b .y-high) || (ltZ (b .x-high) (b .x-low) || ltZ (b .y-high) (b .y-low)))))
 
 -- the record is accepted, has n fixes, and its first time is zero
-pub record Ready (b : List ℕ) (n zero : ℕ) : Type 0 where
+pub record Seekable (b : List ℕ) (n zero : ℕ) : Type 0 where
   pub is-accepted : IsAccepted trail b
   pub count : n ≡ count-field b
   pub first-time : zero ≡ (fix-at trail b 0) .t
@@ -42,16 +43,16 @@ pub record Seek (b : List ℕ) (n z : ℕ) (f : Frame) (w v : ℕ) (a : Raised) 
   pub here : a ≡ raised 16000 z (fix-at trail b (k - 1))
   pub checked : CheckedTrail (fix-at trail b (k - 1)) (from b k n)
   pub base : z ≤ (fix-at trail b (k - 1)) .t
-  pub last : (last-fix (fix-at trail b (k - 1)) (from b k n)) .t ≤ z + 65535
+  pub last : (last-of (fix-at trail b (k - 1)) (from b k n)) .t ≤ z + 65535
   pub left : first-from 16000 z (fix-at trail b 0) (from b 1 n) f w v ≡ first-from 16000 z (fix-at trail b (k - 1)) (from b k n) f w v
 
-checked-n : {b : List ℕ} {n z : ℕ} → Ready b n z → CheckedTrail (fix-at trail b 0) (from b 1 n)
+checked-n : {b : List ℕ} {n z : ℕ} → Seekable b n z → CheckedTrail (fix-at trail b 0) (from b 1 n)
 checked-n {b} r = rw (r .count) (accepted-checked b (r .is-accepted))
 
-pub first-reach : {b : List ℕ} {n z : ℕ} → Ready b n z → Reach z (fix-at trail b 0)
-first-reach {b} {n} {z} r = record { from = omega (arith, r .first-time); to = omega (arith, r .first-time); placed = first-placed (fix-at trail b 0) (from b 1 n) (checked-n r) }
+pub first-reach : {b : List ℕ} {n z : ℕ} → Seekable b n z → Reach z (fix-at trail b 0)
+first-reach {b} {n} {z} r = record { from = omega (arith, r .first-time); to = omega (arith, r .first-time); bounded = first-bounded (fix-at trail b 0) (from b 1 n) (checked-n r) }
 
-pub seek-start : {b : List ℕ} {n z : ℕ} {a : Raised} (f : Frame) (w v : ℕ) → Ready b n z → a ≡ raised 16000 z (fix-at trail b 0) → Seek b n z f w v a 1
+pub seek-start : {b : List ℕ} {n z : ℕ} {a : Raised} (f : Frame) (w v : ℕ) → Seekable b n z → a ≡ raised 16000 z (fix-at trail b 0) → Seek b n z f w v a 1
 seek-start f w v r e =
     let c = checked-n r in
     record { some = omega arith; few = lent (r .is-accepted) (r .count) .some; here = e; checked = c; base = omega (arith, r .first-time); last = omega (arith, r .first-time, c .short); left = refl }
@@ -61,14 +62,14 @@ module _ {b : List ℕ} {n z : ℕ} {f : Frame} {w v : ℕ} {a : Raised} {k : �
     ahead : CheckedTrail (fix-at trail b (k - 1)) (fix-at trail b k ∷ from b (k + 1) n)
     ahead = rw (from-next b k n h) at (x .checked)
 
-    last-ahead : (last-fix (fix-at trail b k) (from b (k + 1) n)) .t ≤ z + 65535
-    unfolding last-fix
+    last-ahead : (last-of (fix-at trail b k) (from b (k + 1) n)) .t ≤ z + 65535
+    unfolding last-of
     last-ahead = rw (from-next b k n h) at (x .last)
 
     pub seek-reach : Reach z (fix-at trail b k)
     seek-reach =
         let g = leg-of _ _ _ ahead in
-        record { from = omega (arith, g .rises, x .base); to = omega (arith, last-ahead, last-after (fix-at trail b k) (from b (k + 1) n) (next _ _ _ ahead .after)); placed = g .placed-b }
+        record { from = omega (arith, g .rises, x .base); to = omega (arith, last-ahead, last-after (fix-at trail b k) (from b (k + 1) n) (next _ _ _ ahead .after)); bounded = g .bounded-b }
 
     module _ {r : Raised} (e : r ≡ raised 16000 z (fix-at trail b k)) where
       pub seek-rises : a .t .0 ≤ r .t .0

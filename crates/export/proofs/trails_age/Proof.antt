@@ -1,5 +1,5 @@
 use mathlib.Core.Path.{_∙_, ap}
-use Rattle.export.specs.Interface.{answer}
+use Rattle.export.specs.Interface.{value-numbers}
 use borrow.Author.Needs.{needs}
 use Rattle.export.proofs.trails_age.Statement.{statement}
 use Rattle.export.proofs.trails_age.Tie as tie
@@ -16,7 +16,7 @@ same-length c = search needs
 returns : tie.Need-returns
 returns c =
     let done = c .before .before .before .age .ensures in
-    (c .count-of .ensures ∙ ap answer (done .0), done .1)
+    (c .count-of .ensures ∙ ap value-numbers (done .0), done .1)
 
 pub trails-age-spec : {M : Type 1} → statement M
 trails-age-spec = tie.close (tie.spec age-requires count-of-requires same-length returns)

@@ -4,7 +4,7 @@ use Rattle.distance.specs.Fix.{fixOf}
 use Rattle.export.specs.Laws.{step-found}
 use mathlib.Core.Path.{sym, _∙_, ap}
 use Rattle.record.specs.Answers.{found}
-use Rattle.export.specs.Interface.{step}
+use Rattle.export.specs.Interface.{step-numbers}
 use borrow.Author.Needs.{needs}
 use Rattle.export.proofs.trails_read.Statement.{statement}
 use Rattle.export.proofs.trails_read.Tie as tie
@@ -36,7 +36,7 @@ returns c =
     (sym (ap found (c .before .before .before .before .s .given .1)) ∙ c .before .before .before .before .before .before .read-at .ensures)
 
 returns-2 : tie.Need-returns-2
-returns-2 c = ap step (sym (ap found (c .enum-told .given .1)) ∙ c .before .before .read-at .ensures)
+returns-2 c = ap step-numbers (sym (ap found (c .enum-told .given .1)) ∙ c .before .before .read-at .ensures)
 
 pub trails-read-spec : {M : Type 1} → statement M
 trails-read-spec =

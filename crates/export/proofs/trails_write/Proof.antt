@@ -1,6 +1,6 @@
 use mathlib.Core.Path.{sym, _∙_, ap}
 use Rattle.writing.specs.Answers.{wrote}
-use Rattle.export.specs.Interface.{answer}
+use Rattle.export.specs.Interface.{value-numbers}
 use borrow.Author.Needs.{needs}
 use Rattle.export.proofs.trails_write.Statement.{statement}
 use Rattle.export.proofs.trails_write.Tie as tie
@@ -21,14 +21,14 @@ same-length : tie.Need-same-length
 same-length c = search needs
 
 returns : tie.Need-returns
-returns c = (ap answer (sym (ap wrote (c .before .w .given .1)) ∙ c .before .before .before .before .before .write .ensures .0), c .before .before .before .before .before .write .ensures .1)
+returns c = (ap value-numbers (sym (ap wrote (c .before .w .given .1)) ∙ c .before .before .before .before .before .write .ensures .0), c .before .before .before .before .before .write .ensures .1)
 
 same-length-2 : tie.Need-same-length-2
 same-length-2 c = search needs
 
 returns-2 : tie.Need-returns-2
 returns-2 c = (
-  rw (c .wide .ensures) (ap answer (sym (ap wrote (c .before .before .w2 .given .1)) ∙ c .before .before .before .before .before .before .write .ensures .0)),
+  rw (c .wide .ensures) (ap value-numbers (sym (ap wrote (c .before .before .w2 .given .1)) ∙ c .before .before .before .before .before .before .write .ensures .0)),
   c .before .before .before .before .before .before .write .ensures .1,
 )
 

@@ -9,7 +9,7 @@ use borrow.Author.Tests.{lt-ltb, le-ltb}
 use Rattle.distance.specs.Place.{Time}
 use Rattle.distance.specs.Integers.Tests.{Test, holds, fails, test}
 use Rattle.legs.specs.Legs.{times, no-times, moving, axis-times}
-use Rattle.legs.specs.Laws.Times.{Within, Sound, Cuts}
+use Rattle.legs.specs.Laws.Times.{OfTimes, Sound, Cuts}
 
 -- u is on the leg that begins at A and takes D seconds
 pub record On (A D : ℕ) (u : Time) : Type 0 where
@@ -139,7 +139,7 @@ pub rest-cut : (A a low high : ℕ) → Cuts (On A 0) (Rests a low high) (axis-t
 unfolding axis-times
 rest-cut A a low high = go (test (suc a) a) (test (suc high) a) (test (suc a) low)
   where
-    nothing : (u : Time) → Within no-times u → ⊥
+    nothing : (u : Time) → OfTimes no-times u → ⊥
     nothing u w = omega (arith, w .from, w .until, u .whole)
 
     go : {p q r : Bool} → Test (suc a) a p → Test (suc high) a q → Test (suc a) low r

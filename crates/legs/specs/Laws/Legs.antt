@@ -5,7 +5,7 @@ use native.Mathlib.Nat.{mul-le-mul-right}
 use native.Mathlib.Omega.{arith}
 use lib.IntN.{ℤ, pos, negsuc, natAbs, _+ℤ_, _-ℤ_, _*ℤ_}
 use lib.Signed.{_≤ℤ_}
-use Rattle.distance.specs.Fix.{Fix, Placed}
+use Rattle.distance.specs.Fix.{Fix, Bounded}
 use Rattle.distance.specs.Distance.{seconds}
 use Rattle.distance.specs.Place.{Time, Place, own, leg, interpolated}
 use Rattle.distance.specs.Box.{Box, In}
@@ -57,13 +57,13 @@ leg-said a b f w v la lb r =
     said-first (same-times (λ u z. record { on = z .0 .0 .0; window = z .0 .0 .1; in-x = z .0 .1; in-y = z .1 }) (λ u z. (((z .on, z .window), z .in-x), z .in-y)) e3)
 
 -- ---- a lone fix
-pub record Stands (a : Raised) (f : Frame) (w v : ℕ) (u : Time) : Type 0 where
+pub record RestsIn (a : Raised) (f : Frame) (w v : ℕ) (u : Time) : Type 0 where
   pub on : On (a .t .0) 0 u
   pub window : Open w v u
   pub in-x : Rests (a .x .0) (f .left .0) (f .right .0) u
   pub in-y : Rests (a .y .0) (f .bottom .0) (f .top .0) u
 
-pub alone-said : (a : Raised) (f : Frame) (w v : ℕ) → Said (Stands a f w v) (leg-first a a f w v)
+pub alone-said : (a : Raised) (f : Frame) (w v : ℕ) → Said (RestsIn a f w v) (leg-first a a f w v)
 unfolding leg-first leg-times
 alone-said a f w v =
     let A = a .t .0 in
@@ -97,13 +97,13 @@ pub record BoxInLimit (b : Box) : Type 0 where
   pub y-low : InLimit (b .y-low)
   pub y-high : InLimit (b .y-high)
 
-placed-x : {a : Fix} → Placed 16000 a → InLimit (a .x)
+placed-x : {a : Fix} → Bounded 16000 a → InLimit (a .x)
 placed-x h = record { low = h .x-low; high = h .x-high }
 
-placed-y : {a : Fix} → Placed 16000 a → InLimit (a .y)
+placed-y : {a : Fix} → Bounded 16000 a → InLimit (a .y)
 placed-y h = record { low = h .y-low; high = h .y-high }
 
-pub low-raised : (z : ℕ) (a : Fix) → Placed 16000 a → Low (raised 16000 z a)
+pub low-raised : (z : ℕ) (a : Fix) → Bounded 16000 a → Low (raised 16000 z a)
 low-raised z a h = record { x = counts (a .x) (placed-x h) .small; y = counts (a .y) (placed-y h) .small }
 
 -- one axis of a place over ℤ is between its edges just if it is so counted
@@ -155,7 +155,7 @@ pub record LegIn (z : ℕ) (box : Box) (w v : ℕ) (a b : Fix) (u : Time) : Type
   pub window : Open w v u
   pub inside : In box (leg a b (absolute z u))
 
-module _ (z : ℕ) (box : Box) (w v : ℕ) (a b : Fix) (base : z ≤ a .t) (rises : a .t < b .t) (pa : Placed 16000 a) (pb : Placed 16000 b) (nb : BoxInLimit box) where
+module _ (z : ℕ) (box : Box) (w v : ℕ) (a b : Fix) (base : z ≤ a .t) (rises : a .t < b .t) (pa : Bounded 16000 a) (pb : Bounded 16000 b) (nb : BoxInLimit box) where
   abbrev A : ℕ
   A = a .t - z
 
@@ -215,15 +215,15 @@ module _ {i lo hi : ℤ} {I L H : ℕ} (ci : Counts i I) (cl : Counts lo L) (ch 
   rests-out : L ≤ I → I ≤ H → ((lo *ℤ pos 1) ≤ℤ i) × (i ≤ℤ (hi *ℤ pos 1))
   rests-out h k = (simp (ci .is, cl .is, diffs) (omega arith), simp (ci .is, ch .is, diffs) (omega arith))
 
-module _ (z : ℕ) (box : Box) (w v : ℕ) (a : Fix) (ends : v ≤ a .t - z) (pa : Placed 16000 a) (nb : BoxInLimit box) where
-  stands-out : (u : Time) → Stands (raised 16000 z a) (framed 16000 box) w v u → OwnIn z box w v a u
+module _ (z : ℕ) (box : Box) (w v : ℕ) (a : Fix) (ends : v ≤ a .t - z) (pa : Bounded 16000 a) (nb : BoxInLimit box) where
+  stands-out : (u : Time) → RestsIn (raised 16000 z a) (framed 16000 box) w v u → OwnIn z box w v a u
   unfolding own
   stands-out u h =
       let x = rests-out (counts (a .x) (placed-x pa)) (counts (box .x-low) (nb .x-low)) (counts (box .x-high) (nb .x-high)) (h .in-x .above) (h .in-x .below) in
       let y = rests-out (counts (a .y) (placed-y pa)) (counts (box .y-low) (nb .y-low)) (counts (box .y-high) (nb .y-high)) (h .in-y .above) (h .in-y .below) in
       record { from = h .on .from; window = h .window; inside = record { x-above = x .0; x-below = x .1; y-above = y .0; y-below = y .1 } }
 
-  stands-in : (u : Time) → OwnIn z box w v a u → Stands (raised 16000 z a) (framed 16000 box) w v u
+  stands-in : (u : Time) → OwnIn z box w v a u → RestsIn (raised 16000 z a) (framed 16000 box) w v u
   unfolding own
   stands-in u h =
       let x = rests-in (counts (a .x) (placed-x pa)) (counts (box .x-low) (nb .x-low)) (counts (box .x-high) (nb .x-high)) (h .inside .x-above) (h .inside .x-below) in

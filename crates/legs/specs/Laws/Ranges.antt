@@ -8,7 +8,7 @@ use native.Mathlib.Omega.{arith}
 use mir.Syntax.{w16, w32}
 use mir.Val.{Fits, SFits}
 use borrow.Author.Tests.{le-leb, lt-leb}
-use Rattle.distance.specs.Fix.{Fix, Placed}
+use Rattle.distance.specs.Fix.{Fix, Bounded}
 use Rattle.legs.specs.declared.Fraction.{Fraction}
 use Rattle.legs.specs.declared.Times.{Times}
 use Rattle.distance.specs.declared.Duration.{Duration}
@@ -71,17 +71,17 @@ fits-32 {A} {D} {v} {n} c fv fn =
 pub record Reach (zero : ℕ) (a : Fix) : Type 0 where
   pub from : zero ≤ a .t
   pub to : a .t ≤ zero + 65535
-  pub placed : Placed 16000 a
+  pub bounded : Bounded 16000 a
 
 -- ---- a place counted from −16,000 on
-pub record OffsetFits (z : ℤ) : Type 0 where
+pub record AboveFits (z : ℤ) : Type 0 where
   pub z32 : SFits w32 z
   pub sum : SFits w32 (z +ℤ pos 16000)
   pub unsigned : T (nonNeg (z +ℤ pos 16000))
   pub short : Fits w16 (natAbs (z +ℤ pos 16000))
 
-pub offset-fits : {z : ℤ} → InLimit z → OffsetFits z
-offset-fits {z} h =
+pub above-fits : {z : ℤ} → InLimit z → AboveFits z
+above-fits {z} h =
     let b : natAbs z ≤ 16000 = abs-bound z 16000 (h .high) (h .low) in
     let bz : Bound z = record { top = 16000; holds = b } in
     let up : Bound (pos 16000) = record { top = 16000; holds = omega arith } in

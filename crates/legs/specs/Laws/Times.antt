@@ -15,7 +15,7 @@ pub through : (n d p q a b : ℕ) → 1 ≤ q → n * q ≤ p * d → p * b ≤ 
 through n d p q a b h x y = le-of-mul-le-mul-right {k = q} (omega (arith, mul-le-mul-right b x, mul-le-mul-right d y)) h
 
 -- u is not before the first time of t and not after the last
-pub record Within (t : Times) (u : Time) : Type 0 where
+pub record OfTimes (t : Times) (u : Time) : Type 0 where
   pub from : t .first .num * u .q ≤ u .p * t .first .den
   pub until : u .p * t .last .den ≤ t .last .num * u .q
 
@@ -28,13 +28,13 @@ pub record Sound (t : Times) : Type 0 where
 -- where G holds, S holds just at the times of t; and S holds just at the times of t
 pub record Cuts (G S : Time → Type 0) (t : Times) : Type 0 where
   pub sound : Sound t
-  pub only : (u : Time) → G u → S u → Within t u
-  pub all : (u : Time) → G u → Within t u → S u
+  pub only : (u : Time) → G u → S u → OfTimes t u
+  pub all : (u : Time) → G u → OfTimes t u → S u
 
 pub record Exactly (S : Time → Type 0) (t : Times) : Type 0 where
   pub sound : Sound t
-  pub only : (u : Time) → S u → Within t u
-  pub all : (u : Time) → Within t u → S u
+  pub only : (u : Time) → S u → OfTimes t u
+  pub all : (u : Time) → OfTimes t u → S u
 
 pub narrow : {G H S : Time → Type 0} {t : Times} → ((u : Time) → G u → H u) → Cuts H S t → Cuts G S t
 narrow f x = record { sound = x .sound; only = (λ u g s. x .only u (f u g) s); all = (λ u g w. x .all u (f u g) w) }
@@ -55,24 +55,24 @@ module _ {s t : Times} (x : Sound s) (y : Sound t) where
       go (fails p) (holds q) = record { first-some = y .first-some; last-some = x .last-some; small = y .small }
       go (fails p) (fails q) = record { first-some = y .first-some; last-some = y .last-some; small = y .small }
 
-  both-in : (u : Time) → Within s u → Within t u → Within (both s t) u
+  both-in : (u : Time) → OfTimes s u → OfTimes t u → OfTimes (both s t) u
   unfolding later-of earlier-of
   both-in u v w = go (test (t .first .num * s .first .den) (s .first .num * t .first .den)) (test (s .last .num * t .last .den) (t .last .num * s .last .den))
     where
       go : {b c : Bool} → Test (t .first .num * s .first .den) (s .first .num * t .first .den) b → Test (s .last .num * t .last .den) (t .last .num * s .last .den) c
-          → Within (record { first = cond b (s .first) (t .first); last = cond c (s .last) (t .last) }) u
+          → OfTimes (record { first = cond b (s .first) (t .first); last = cond c (s .last) (t .last) }) u
       go (holds p) (holds q) = record { from = v .from; until = v .until }
       go (holds p) (fails q) = record { from = v .from; until = w .until }
       go (fails p) (holds q) = record { from = w .from; until = v .until }
       go (fails p) (fails q) = record { from = w .from; until = w .until }
 
-  both-out : (u : Time) → Within (both s t) u → Within s u × Within t u
+  both-out : (u : Time) → OfTimes (both s t) u → OfTimes s u × OfTimes t u
   unfolding later-of earlier-of
   both-out u z = go (test (t .first .num * s .first .den) (s .first .num * t .first .den)) (test (s .last .num * t .last .den) (t .last .num * s .last .den)) (z .from) (z .until)
     where
       go : {b c : Bool} → Test (t .first .num * s .first .den) (s .first .num * t .first .den) b → Test (s .last .num * t .last .den) (t .last .num * s .last .den) c
           → (cond b (s .first) (t .first)) .num * u .q ≤ u .p * (cond b (s .first) (t .first)) .den → u .p * (cond c (s .last) (t .last)) .den ≤ (cond c (s .last) (t .last)) .num * u .q
-          → Within s u × Within t u
+          → OfTimes s u × OfTimes t u
       go (holds p) (holds q) f l = (record { from = f; until = l }, record { from = through _ _ _ _ _ _ (x .first-some) p f; until = through _ _ _ _ _ _ (x .last-some) l q })
       go (holds p) (fails q) f l = (record { from = f; until = through _ _ _ _ _ _ (y .last-some) l (omega arith) }, record { from = through _ _ _ _ _ _ (x .first-some) p f; until = l })
       go (fails p) (holds q) f l = (record { from = through _ _ _ _ _ _ (y .first-some) (omega arith) f; until = l }, record { from = f; until = through _ _ _ _ _ _ (x .last-some) l q })

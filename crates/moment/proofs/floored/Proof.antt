@@ -1,7 +1,7 @@
 use mir.Facts.{toZ-ofZ}
 use mir.Syntax.{w64}
 use mir.Val.{SFits}
-use Rattle.moment.specs.Laws.Ranges.{Under, From, under, from}
+use Rattle.moment.specs.Laws.Ranges.{Under, NotBelow, under, from}
 use borrow.Author.Needs.{needs}
 use Rattle.moment.proofs.floored.Statement.{statement}
 use Rattle.moment.proofs.floored.Tie as tie
@@ -12,7 +12,7 @@ word s = search needs
 below : (c : tie.Then1) → Under (c .before .args .z) (c .before .args .d)
 below c = let k = word (c .before) in under _ _ (search needs) (c .before .pre) (simp (toZ-ofZ, k) at (c .if1 .taken))
 
-above : (c : tie.Else1) → From (c .before .args .z) (c .before .args .d)
+above : (c : tie.Else1) → NotBelow (c .before .args .z) (c .before .args .d)
 above c = let k = word (c .before) in from _ _ (search needs) (c .before .pre) (simp (toZ-ofZ, k) at (c .if1 .left))
 
 sub-t5 : tie.Need-sub-t5

@@ -49,10 +49,10 @@ module _ (b : List ℕ) (s m : ℕ) where
     abbrev first-fix : Fix
     first-fix = fix-at trail b 0
 
-    abbrev last-fix : Fix
-    last-fix = fix-at trail b (count-field b - 1)
+    abbrev final-fix : Fix
+    final-fix = fix-at trail b (count-field b - 1)
 
-    moment-says : asks bad-moment ≡ moment-outside s m first-fix last-fix
+    moment-says : asks bad-moment ≡ moment-outside s m first-fix final-fix
     unfolding sentence
     moment-says = ends-are b (moment-outside s m) (accepted-good b accepted .head .some-fix)
 
@@ -64,12 +64,12 @@ module _ (b : List ℕ) (s m : ℕ) where
         let e : asks bad-moment ≡ true = moment-says ∙ rw (lt-ltb _ _ k) refl in
         rw (left, passes asks bad-thousandths (bad-moment ∷ []) (not-high h), stops asks bad-moment [] e) refl
 
-    pub place-late : m ≤ 999 → 1000 * first-fix .t ≤ 1000 * s + m → 1000 * last-fix .t < 1000 * s + m → place-answer trail b s m ≡ turns-away 12
+    pub place-late : m ≤ 999 → 1000 * first-fix .t ≤ 1000 * s + m → 1000 * final-fix .t < 1000 * s + m → place-answer trail b s m ≡ turns-away 12
     place-late h k l =
         let e : asks bad-moment ≡ true = moment-says ∙ rw (le-ltb _ _ k, lt-ltb _ _ l) refl in
         rw (left, passes asks bad-thousandths (bad-moment ∷ []) (not-high h), stops asks bad-moment [] e) refl
 
-    pub place-gives : m ≤ 999 → 1000 * first-fix .t ≤ 1000 * s + m → 1000 * s + m ≤ 1000 * last-fix .t → place-answer trail b s m ≡ gives (beside (place (fixes trail b) (moment s m)))
+    pub place-gives : m ≤ 999 → 1000 * first-fix .t ≤ 1000 * s + m → 1000 * s + m ≤ 1000 * final-fix .t → place-answer trail b s m ≡ gives (beside (place (fixes trail b) (moment s m)))
     place-gives h k l =
         let e : asks bad-moment ≡ false = moment-says ∙ rw (le-ltb _ _ k, le-ltb _ _ l) refl in
         rw (left, passes asks bad-thousandths (bad-moment ∷ []) (not-high h), passes asks bad-moment [] e, first-none asks, moment-is (fixes trail b) s m) refl
@@ -78,8 +78,8 @@ module _ (b : List ℕ) (s m : ℕ) where
 pub record Stands (l : List Fix) (s m : ℕ) (a : Standing) : Type 0 where
   pub is-place : a .exact ≡ place l (moment s m)
   pub proper : Proper (a .exact)
-  pub x-nearest : Nearest (a .exact .x) (a .exact .d) (a .x)
-  pub y-nearest : Nearest (a .exact .y) (a .exact .d) (a .y)
+  pub x-nearest : Nearest (a .exact .x) (a .exact .d) (a .rounded-x)
+  pub y-nearest : Nearest (a .exact .y) (a .exact .d) (a .rounded-y)
 
 nearest : (n d : ℤ) → pos 1 ≤ℤ d → Nearest n d (rounded n d)
 nearest n (pos d) h = rounded-nearest n d (pos-le 1 d .0 h)

@@ -97,7 +97,7 @@ pub record Under (z : ℤ) (d : ℕ) : Type 0 where
   pub result : SFits w16 (negsuc 0 -ℤ pos (natAbs (negsuc 0 -ℤ z) / d))
   pub is : negsuc 0 -ℤ pos (natAbs (negsuc 0 -ℤ z) / d) ≡ floored z d
 
-pub record From (z : ℤ) (d : ℕ) : Type 0 where
+pub record NotBelow (z : ℤ) (d : ℕ) : Type 0 where
   pub unsigned : T (nonNeg z)
   pub word : Fits w64 (natAbs z)
   pub short : SFits w16 (pos (natAbs z / d))
@@ -121,7 +121,7 @@ under (negsuc n) d f s h =
       is = rw e c;
     }
 
-pub from : (z : ℤ) (d : ℕ) → Fits w32 d → Short z d → ltZ z (pos 0) ≡ false → From z d
+pub from : (z : ℤ) (d : ℕ) → Fits w32 d → Short z d → ltZ z (pos 0) ≡ false → NotBelow z d
 unfolding floored
 from (pos n) d f s h =
     let q : n / d < 32768 = quotient n d (s .some) (s .below) in
@@ -177,10 +177,10 @@ module _ {a b : Fix} {u : ℕ} (h : OnLeg a b u) (over gone : ℕ) (over-is : ov
   between i j a b c e = record { some = over-some; few = over-few; below = axis-within i j over gone a b c e gone-within }
 
   pub between-x : (x : ℤ) → x ≡ interpolated (a .x) (b .x) (pos over) (pos gone) → Between x over
-  between-x x e = rw e (between (a .x) (b .x) (h .leg .placed-a .x-low) (h .leg .placed-a .x-high) (h .leg .placed-b .x-low) (h .leg .placed-b .x-high))
+  between-x x e = rw e (between (a .x) (b .x) (h .leg .bounded-a .x-low) (h .leg .bounded-a .x-high) (h .leg .bounded-b .x-low) (h .leg .bounded-b .x-high))
 
   pub between-y : (y : ℤ) → y ≡ interpolated (a .y) (b .y) (pos over) (pos gone) → Between y over
-  between-y y e = rw e (between (a .y) (b .y) (h .leg .placed-a .y-low) (h .leg .placed-a .y-high) (h .leg .placed-b .y-low) (h .leg .placed-b .y-high))
+  between-y y e = rw e (between (a .y) (b .y) (h .leg .bounded-a .y-low) (h .leg .bounded-a .y-high) (h .leg .bounded-b .y-low) (h .leg .bounded-b .y-high))
 
   over-same : pos over ≡ pos 1000 *ℤ seconds a b
   over-same = let r = h .leg .rises in rw over-is (simp diffs (omega arith))
@@ -189,7 +189,7 @@ module _ {a b : Fix} {u : ℕ} (h : OnLeg a b u) (over gone : ℕ) (over-is : ov
   gone-same = let r = h .from in rw gone-is (simp diffs (omega arith))
 
   pub leg-standing : (x y rx ry : ℤ) → x ≡ interpolated (a .x) (b .x) (pos over) (pos gone) → y ≡ interpolated (a .y) (b .y) (pos over) (pos gone) → rx ≡ rounded x (pos over) → ry ≡ rounded y (pos over)
-      → _≡_ {A = Standing} (record { exact = record { x = x; y = y; d = pos over }; x = rx; y = ry }) (beside (leg a b (instant u)))
+      → _≡_ {A = Standing} (record { exact = record { x = x; y = y; d = pos over }; rounded-x = rx; rounded-y = ry }) (beside (leg a b (instant u)))
   unfolding leg
   leg-standing x y rx ry p q s t = rw (s, t, p, q, over-same, gone-same) refl
 

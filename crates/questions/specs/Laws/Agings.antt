@@ -26,7 +26,7 @@ use Rattle.thinning.specs.Aging.{Call, by-tolerance, by-days, left-by, applies,
 use Rattle.thinning.specs.Laws.Trail.{again, no-more}
 use Rattle.thinning.specs.Laws.Near.{thinned-near}
 use Rattle.thinning.specs.Laws.Step.{thins, step, applies-low}
-use Rattle.questions.specs.Agings.{run, Book, new-book, greater, fed, fed-all, kept-at, mark-of, worth, AskedOf, call-of, calls-of}
+use Rattle.questions.specs.Agings.{run, Book, new-book, greater, fed, fed-all, kept-at, mark-of, counts-as, AskedOf, call-of, calls-of}
 
 -- ---- what the buffer is after some of the calls: b is the original's buffer, c the present one
 pub record State (b c : List ℕ) (E : Option ℕ) : Type 0 where
@@ -118,30 +118,30 @@ unfolding new-book
 agings b calls bytes a m = all-calls b b (new-book (fixes trail b)) calls a (begins b bytes a m)
 
 -- ---- at every fractional time of the trail
-pub kept-near : (E : Option ℕ) (l : List Fix) (u : Time) → Rising l → AskedOf l u → Near (worth E) (place l u) (place (kept-at E l) u)
-unfolding kept-at worth
+pub kept-near : (E : Option ℕ) (l : List Fix) (u : Time) → Rising l → AskedOf l u → Near (counts-as E) (place l u) (place (kept-at E l) u)
+unfolding kept-at counts-as
 kept-near none l u h t = near-self 0 (place l u)
 kept-near (some E) (a ∷ l) u h t = thinned-near E u a l h (t .0)
 
 -- E IS THE GREATEST TOLERANCE APPLIED: each is at most E, and E is one of them or none was.
-greater-left : (E t : Option ℕ) → worth E ≤ worth (greater E t)
-unfolding greater worth
+greater-left : (E t : Option ℕ) → counts-as E ≤ counts-as (greater E t)
+unfolding greater counts-as
 greater-left E none = omega arith
 greater-left none (some e) = omega arith
 greater-left (some E) (some e) = omega arith
 
-greater-right : (E t : Option ℕ) → worth t ≤ worth (greater E t)
-unfolding greater worth
+greater-right : (E t : Option ℕ) → counts-as t ≤ counts-as (greater E t)
+unfolding greater counts-as
 greater-right E none = omega arith
 greater-right none (some e) = omega arith
 greater-right (some E) (some e) = omega arith
 
-grows : (k : Book) (calls : List Call) → worth (k .E) ≤ worth ((fed-all k calls) .E)
+grows : (k : Book) (calls : List Call) → counts-as (k .E) ≤ counts-as ((fed-all k calls) .E)
 unfolding fed-all fed
 grows k [] = omega arith
 grows k (c ∷ calls) = omega (arith, greater-left (k .E) (applies c), grows (fed k c) calls)
 
-pub at-most-E : (k : Book) (calls : List Call) → All (λ (c : Call). worth (applies c) ≤ worth ((fed-all k calls) .E)) calls
+pub at-most-E : (k : Book) (calls : List Call) → All (λ (c : Call). counts-as (applies c) ≤ counts-as ((fed-all k calls) .E)) calls
 unfolding fed-all fed
 at-most-E k [] = all-none
 at-most-E k (c ∷ calls) = all-more {m = c} (omega (arith, greater-right (k .E) (applies c), grows (fed k c) calls)) (at-most-E (fed k c) calls)

@@ -8,14 +8,14 @@ use native.Mathlib.Nat.{mul-le-mul-left}
 use native.Mathlib.Omega.{arith}
 use lib.Dec.{ltb}
 use lib.ListN.{length}
-use Rattle.distance.specs.Fix.{Fix, Rising}
+use Rattle.distance.specs.Fix.{Fix, Rising, last-of}
 use Rattle.distance.specs.Place.{Proper, Time, From, Until, place, Near}
 use Rattle.distance.specs.Box.{Box, In, NearBox, NearSide}
 use Rattle.distance.specs.Laws.Box.{told, denied}
 use Rattle.distance.specs.Laws.Place.{place-proper}
 use Rattle.format.specs.Format.{trail, never, mark-field, count-field, fixes, fix-at}
 use Rattle.format.specs.Laws.Each.{length-each}
-use Rattle.record.specs.Checks.{Asked, IsAccepted, bad-window, bad-box, sentence, asked-of, refusal, crossing, last-fix, of-ends, second-outside}
+use Rattle.record.specs.Checks.{Asked, IsAccepted, bad-window, bad-box, sentence, asked-of, refusal, crossing, of-ends, second-outside}
 use Rattle.record.specs.Answers.{gives, answer}
 use Rattle.record.specs.Laws.First.{first-exactly, NoneHolds, and-not, none-holds}
 use Rattle.format.specs.Laws.RoundTrip.{AreBytes}
@@ -24,7 +24,7 @@ use Rattle.thinning.specs.Aging.{Call}
 use Rattle.thinning.specs.Laws.Trail.{SameEnds, no-fixes, same-ends, ends-stay, kept-rising}
 use Rattle.legs.specs.declared.Fraction.{Fraction}
 use Rattle.crossing.specs.Crossing.{Told, Denied, Means, after-first, asked-crossing, cross-answer, first-crossing}
-use Rattle.questions.specs.Agings.{new-book, run, kept-at, worth, AskedOf}
+use Rattle.questions.specs.Agings.{new-book, run, kept-at, counts-as, AskedOf}
 use Rattle.questions.specs.Claim.{CrossingSays, says-refused, says-told, says-denied, book, Claim}
 use Rattle.questions.specs.Laws.Agings.{agings, kept-near, original-stays}
 use Rattle.crossing.specs.Laws.Crossing.{GoodWindow}
@@ -43,9 +43,9 @@ kept-rises none l h = h
 kept-rises (some E) l h = kept-rising E l h
 
 -- a time of a window that lies in the kept trail's times is asked of the original
-asked-in : {l : List Fix} {a : Fix} {k : List Fix} → SameEnds l (a ∷ k) → (s e : ℕ) → GoodWindow s e (a .t) ((last-fix a k) .t) → (u : Time) → From s u → Until e u → AskedOf l u
+asked-in : {l : List Fix} {a : Fix} {k : List Fix} → SameEnds l (a ∷ k) → (s e : ℕ) → GoodWindow s e (a .t) ((last-of a k) .t) → (u : Time) → From s u → Until e u → AskedOf l u
 asked-in (same-ends {i} {l} {k} h) s e q u f t =
-    let last : (last-fix i l) .t ≡ (last-fix i k) .t = ap (λ (x : Fix). x .t) (sym h) in
+    let last : (last-of i l) .t ≡ (last-of i k) .t = ap (λ (x : Fix). x .t) (sym h) in
     (record { from = omega (arith, mul-le-mul-left (u .q) (q .from), f .from) }, record { until = omega (arith, mul-le-mul-left (u .q) (q .to), t .until, ap (λ (x : ℕ). u .q * x) last) })
 
 -- ---- the window's sentence, of a list of fixes
@@ -56,9 +56,9 @@ window-says : (c : List ℕ) (s e : ℕ) (box : Box) → sentence trail (asked-o
 unfolding sentence
 window-says c s e box h = h
 
-window-asked : (a : Fix) (l : List Fix) (s e : ℕ) → window-bad (a ∷ l) s e ≡ false → GoodWindow s e (a .t) ((last-fix a l) .t)
+window-asked : (a : Fix) (l : List Fix) (s e : ℕ) → window-bad (a ∷ l) s e ≡ false → GoodWindow s e (a .t) ((last-of a l) .t)
 unfolding of-ends
-window-asked a l s e h = window-good s e (a .t) ((last-fix a l) .t) h
+window-asked a l s e h = window-good s e (a .t) ((last-of a l) .t) h
 
 module _ (E : Option ℕ) (l m : List Fix) (rises : Rising l) (is : m ≡ kept-at E l) (some-fix : 1 ≤ length m) (s e : ℕ) (box : Box) (window : window-bad m s e ≡ false) where
   -- the window is of the original's times too
@@ -69,18 +69,18 @@ module _ (E : Option ℕ) (l m : List Fix) (rises : Rising l) (is : m ≡ kept-a
       go [] z n w = absurd (omega (arith, n))
       go (a ∷ k) z n w = asked-in (rw (sym z) at (kept-ends E l)) s e (window-asked a k s e w) u f t
 
-  near-then : (u : Time) → From s u → Until e u → Near (worth E) (place l u) (place m u)
+  near-then : (u : Time) → From s u → Until e u → Near (counts-as E) (place l u) (place m u)
   near-then u f t = rw is (kept-near E l u rises (of-original u f t))
 
   proper-then : (u : Time) → Proper (place m u)
   proper-then u = place-proper u (rw is (kept-rises E l rises))
 
-  told-near : (n d : ℕ) (t : Told m box s e n d) → NearBox (worth E) box (place l (after-first m n d (t .some-denominator)))
+  told-near : (n d : ℕ) (t : Told m box s e n d) → NearBox (counts-as E) box (place l (after-first m n d (t .some-denominator)))
   told-near n d t =
       let u = after-first m n d (t .some-denominator) in
-      told (worth E) box (place l u) (place m u) (near-then u (t .crosses .opened) (t .crosses .closed)) (proper-then u) (t .crosses .inside)
+      told (counts-as E) box (place l u) (place m u) (near-then u (t .crosses .opened) (t .crosses .closed)) (proper-then u) (t .crosses .inside)
 
-  denied-near : Denied m box s e → (u : Time) → From s u → Until e u → In box (place l u) → NearSide (worth E) box (place l u)
+  denied-near : Denied m box s e → (u : Time) → From s u → Until e u → In box (place l u) → NearSide (counts-as E) box (place l u)
   denied-near never-in u f t i = denied (near-then u f t) (place-proper u rises) (proper-then u) box i (λ j. never-in u (record { opened = f; closed = t; inside = j }))
 
 -- ---- the crossing's answer on a trail that was kept at E
@@ -94,17 +94,17 @@ module _ (E : Option ℕ) (l : List Fix) (c : List ℕ) (rises : Rising l) (a : 
   some-fix-left : 1 ≤ length m
   some-fix-left = let g = accepted-good c a .head in omega (arith, g .some-fix, length-each (fix-at trail c) 0 (count-field c))
 
-  say : window-bad m s e ≡ false → (o : Option Fraction) → Means m box s e o → CrossingSays (worth E) l c s e box (gives o)
+  say : window-bad m s e ≡ false → (o : Option Fraction) → Means m box s e o → CrossingSays (counts-as E) l c s e box (gives o)
   say w (some f) t = says-told t (told-near E l m rises is some-fix-left s e box w (f .num) (f .den) t)
   say w none d = says-denied d (denied-near E l m rises is some-fix-left s e box w d)
 
   window-false : NoneHolds (sentence trail q) (bad-window ∷ bad-box ∷ []) → window-bad m s e ≡ false
   window-false (and-not w r) = window-says c s e box w
 
-  crossing-says : CrossingSays (worth E) l c s e box (cross-answer trail c s e box)
+  crossing-says : CrossingSays (counts-as E) l c s e box (cross-answer trail c s e box)
   crossing-says = go (refusal trail crossing q) refl
     where
-      go : (r : Option ℕ) → refusal trail crossing q ≡ r → CrossingSays (worth E) l c s e box (answer r (first-crossing 16000 m box s e))
+      go : (r : Option ℕ) → refusal trail crossing q ≡ r → CrossingSays (counts-as E) l c s e box (answer r (first-crossing 16000 m box s e))
       go (some k) h = says-refused (first-exactly (sentence trail q) k (bad-window ∷ bad-box ∷ []) .0 (sym (two-left c s e box a) ∙ h))
       go none h =
           let w = window-false (none-holds (sentence trail q) (bad-window ∷ bad-box ∷ []) (sym (two-left c s e box a) ∙ h)) in

@@ -10,13 +10,13 @@ use lib.ListN.{length, take}
 use borrow.Author.Tests.{eqb-true, leb-false, le-leb, lt-leb, lt-ltb, not-false}
 use lib.IntN.{pos, negℤ}
 use lib.Signed.{ltZ, _≤ℤ_}
-use Rattle.distance.specs.Fix.{Fix, Placed, After, none-after, later, Rising, no-fix, rising}
+use Rattle.distance.specs.Fix.{Fix, Bounded, After, none-after, later, Rising, no-fix, rising, last-of}
 use Rattle.distance.specs.Distance.{seconds}
 use Rattle.distance.specs.Laws.All.{All, all-none, all-more}
 use Rattle.distance.specs.Integers.Differences.{diffs}
 use Rattle.distance.specs.Integers.Order.{ltZ-false, le-of-ltZ}
 use Rattle.format.specs.Format.{trail, fix-at, record-bytes, length-field, mark-field, count-field, fixes}
-use Rattle.record.specs.Checks.{Asked, read-refusal, few-bytes, other-kind, bad-count, bad-length, short-record, bad-mark, sentence, first, head-checks, fix-checks, asked-of, nothing, IsAccepted, outside, fix-outside, some-outside, some-early-after, some-early, last-fix, of-ends, too-long}
+use Rattle.record.specs.Checks.{Asked, read-refusal, few-bytes, other-kind, bad-count, bad-length, short-record, bad-mark, sentence, first, head-checks, fix-checks, asked-of, nothing, IsAccepted, outside, fix-outside, some-outside, some-early-after, some-early, of-ends, too-long}
 use Rattle.record.specs.Laws.First.{passes, NoneHolds, no-check, and-not, none-holds, none-first, none-front, first-none}
 use Rattle.record.specs.Laws.Head.{Head, says, neither, accepted-head, not-few, not-other, count-good, length-same, not-short, mark-low, mark-never, mark-says, from-2, from-3, from-4, from-5, from-6}
 use Rattle.format.specs.Laws.Numbers.{false-true}
@@ -44,8 +44,8 @@ good-fixes q h = rw (h .inside, h .ordered, h .short) refl
 
 -- ---- the mark
 pub data GoodMark (m : ℕ) : Type 0 where
-  applied : m ≤ 32000 → GoodMark m
-  never-applied : m ≡ 65535 → GoodMark m
+  mark-applied : m ≤ 32000 → GoodMark m
+  mark-never-applied : m ≡ 65535 → GoodMark m
 
 mark-good : (m : ℕ) → ltb 32000 m && not (eqb m 65535) ≡ false → GoodMark m
 mark-good m h = go (test m 32000)
@@ -55,8 +55,8 @@ mark-good m h = go (test m 32000)
     second false y e h = absurd (false-true e)
 
     go : {b : Bool} → Test m 32000 b → GoodMark m
-    go (holds t) = applied t
-    go (fails t) = never-applied (eqb-true m 65535 (not-false _ (second (ltb 32000 m) (not (eqb m 65535)) (lt-ltb 32000 m t) h)))
+    go (holds t) = mark-applied t
+    go (fails t) = mark-never-applied (eqb-true m 65535 (not-false _ (second (ltb 32000 m) (not (eqb m 65535)) (lt-ltb 32000 m t) h)))
 
 -- ---- what an accepted record gives
 pub record Good (b : List ℕ) : Type 0 where
@@ -78,8 +78,8 @@ accepted-good b h =
 
 -- ---- a record that reads so is accepted
 mark-passes : (b : List ℕ) → GoodMark (mark-field b) → says b bad-mark ≡ false
-mark-passes b (applied h) = mark-low b h
-mark-passes b (never-applied h) = mark-never b h
+mark-passes b (mark-applied h) = mark-low b h
+mark-passes b (mark-never-applied h) = mark-never b h
 
 pub accept : (mark : ℕ) (l : List Fix) (b : List ℕ) → Reads mark l b → GoodMark mark → 1 ≤ length l → length l ≤ 4096 → 10 + 8 * length l ≤ length b → GoodFixes l → IsAccepted trail b
 accept mark l b r m one few whole g =
@@ -98,22 +98,22 @@ accept mark l b r m one few whole g =
     record { accepted = none-first (says b) head-checks fix-checks head ∙ good-fixes (asked-of trail b nothing) (rw (r .fixes-read) g) }
 
 -- ---- the three checks of the fixes, as the layers above use them: places within the limit, times that rise, and a short span
-place-good : (limit : ℕ) (f : Fix) → fix-outside limit f ≡ false → Placed limit f
+place-good : (limit : ℕ) (f : Fix) → fix-outside limit f ≡ false → Bounded limit f
 place-good limit f h =
     let xy = neither (outside limit (f .x)) (outside limit (f .y)) h in
     let x = neither (ltZ (f .x) (negℤ (pos limit))) (ltZ (pos limit) (f .x)) (xy .0) in
     let y = neither (ltZ (f .y) (negℤ (pos limit))) (ltZ (pos limit) (f .y)) (xy .1) in
     record { x-low = le-of-ltZ (x .0); x-high = le-of-ltZ (x .1); y-low = le-of-ltZ (y .0); y-high = le-of-ltZ (y .1) }
 
-good-place : (limit : ℕ) (f : Fix) → Placed limit f → fix-outside limit f ≡ false
+good-place : (limit : ℕ) (f : Fix) → Bounded limit f → fix-outside limit f ≡ false
 good-place limit f h = rw (ltZ-false (h .x-low), ltZ-false (h .x-high), ltZ-false (h .y-low), ltZ-false (h .y-high)) refl
 
-pub places-good : (limit : ℕ) (l : List Fix) → some-outside limit l ≡ false → All (Placed limit) l
+pub places-good : (limit : ℕ) (l : List Fix) → some-outside limit l ≡ false → All (Bounded limit) l
 unfolding some-outside
 places-good limit [] h = all-none
 places-good limit (f ∷ l) h = let n = neither (fix-outside limit f) (some-outside limit l) h in all-more (place-good limit f (n .0)) (places-good limit l (n .1))
 
-pub good-places : (limit : ℕ) {l : List Fix} → All (Placed limit) l → some-outside limit l ≡ false
+pub good-places : (limit : ℕ) {l : List Fix} → All (Bounded limit) l → some-outside limit l ≡ false
 unfolding some-outside
 good-places limit all-none = refl
 good-places limit (all-more {m = f} h t) = rw (good-place limit f h) (good-places limit t)
@@ -138,10 +138,10 @@ unfolding some-early
 good-times no-fix = refl
 good-times (rising k) = good-after k
 
-pub span-good : (a : Fix) (l : List Fix) → of-ends too-long (a ∷ l) ≡ false → (last-fix a l) .t ≤ a .t + 65535
+pub span-good : (a : Fix) (l : List Fix) → of-ends too-long (a ∷ l) ≡ false → (last-of a l) .t ≤ a .t + 65535
 unfolding of-ends
 span-good a l h =
-    let b = last-fix a l in
+    let b = last-of a l in
     let g : seconds a b ≤ℤ pos 65535 = le-of-ltZ h in
     omega (arith, simp diffs at g)
 

@@ -8,14 +8,14 @@ use native.Mathlib.Omega.{arith}
 use lib.Dec.{leb}
 use lib.IntN.{pos}
 use lib.ListN.{length}
-use Rattle.distance.specs.Fix.{Fix}
+use Rattle.distance.specs.Fix.{Fix, last-of}
 use Rattle.distance.specs.Distance.{seconds}
-use Rattle.distance.specs.Laws.All.{All, all-none, all-more, all-append}
+use Rattle.distance.specs.Laws.All.{All, all-none, all-more, all-append, last-more}
 use Rattle.distance.specs.Integers.Differences.{diffs}
 use Rattle.distance.specs.Integers.Order.{ltZ-true, ltZ-false}
 use Rattle.record.specs.declared.Scan.{Scan}
 use Rattle.format.specs.Format.{trail, each}
-use Rattle.record.specs.Checks.{Asked, misplaced, unordered, long-span, first, sentence, fix-outside, some-outside, some-early-after, some-early, last-fix, of-ends, too-long, fix-checks}
+use Rattle.record.specs.Checks.{Asked, misplaced, unordered, long-span, first, sentence, fix-outside, some-outside, some-early-after, some-early, of-ends, too-long, fix-checks}
 use Rattle.format.specs.Laws.Each.{each-more}
 use Rattle.record.specs.Laws.First.{stops, passes}
 
@@ -32,7 +32,7 @@ pub record Scanned (a : Fix) (l : List Fix) (s : Scan) : Type 0 where
   pub outside-is : s .outside ≡ some-outside 16000 (a ∷ l)
   pub early-is : s .early ≡ some-early (a ∷ l)
   pub first-is : s .first .0 ≡ a .t
-  pub last-is : s .last .0 ≡ (last-fix a l) .t
+  pub last-is : s .last .0 ≡ (last-of a l) .t
   pub timed : All Timed (a ∷ l)
 
 or-assoc : (x y z : Bool) → (x || y) || z ≡ x || (y || z)
@@ -49,18 +49,13 @@ unfolding some-outside
 outside-more [] f = or-false _
 outside-more (a ∷ l) f = ap (λ (t : Bool). fix-outside 16000 a || t) (outside-more l f) ∙ sym (or-assoc (fix-outside 16000 a) (some-outside 16000 l) (fix-outside 16000 f))
 
-early-more : (a : Fix) (l : List Fix) (f : Fix) → some-early-after (a .t) (l ++ f ∷ []) ≡ some-early-after (a .t) l || leb (f .t) ((last-fix a l) .t)
-unfolding some-early-after last-fix
+early-more : (a : Fix) (l : List Fix) (f : Fix) → some-early-after (a .t) (l ++ f ∷ []) ≡ some-early-after (a .t) l || leb (f .t) ((last-of a l) .t)
+unfolding some-early-after last-of
 early-more a [] f = or-false _
-early-more a (b ∷ l) f = ap (λ (t : Bool). leb (b .t) (a .t) || t) (early-more b l f) ∙ sym (or-assoc (leb (b .t) (a .t)) (some-early-after (b .t) l) (leb (f .t) ((last-fix b l) .t)))
-
-pub last-more : (a : Fix) (l : List Fix) (f : Fix) → last-fix a (l ++ f ∷ []) ≡ f
-unfolding last-fix
-last-more a [] f = refl
-last-more a (b ∷ l) f = last-more b l f
+early-more a (b ∷ l) f = ap (λ (t : Bool). leb (b .t) (a .t) || t) (early-more b l f) ∙ sym (or-assoc (leb (b .t) (a .t)) (some-early-after (b .t) l) (leb (f .t) ((last-of b l) .t)))
 
 pub scanned-first : (a : Fix) (s : Scan) → s .outside ≡ fix-outside 16000 a → s .early ≡ false → s .first .0 ≡ a .t → s .last .0 ≡ a .t → a .t < 4294967296 → Scanned a [] s
-unfolding some-outside some-early some-early-after last-fix
+unfolding some-outside some-early some-early-after last-of
 scanned-first a s p q r t h = record { outside-is = p ∙ sym (or-false _); early-is = q; first-is = r; last-is = t; timed = all-more (record { t32 = h }) all-none }
 
 pub scanned-more : (a : Fix) (l : List Fix) (f : Fix) (s r : Scan) → Scanned a l s → r .outside ≡ s .outside || fix-outside 16000 f → r .early ≡ s .early || leb (f .t) (s .last .0)
@@ -102,7 +97,7 @@ module _ (q : Asked) (a : Fix) (l : List Fix) (s : Scan) (is : q .trail-fixes �
   unfolding sentence
   early-says = rw is (sym (h .early-is))
 
-  long-says : (b : Bool) → too-long a (last-fix a l) ≡ b → sentence trail q long-span ≡ b
+  long-says : (b : Bool) → too-long a (last-of a l) ≡ b → sentence trail q long-span ≡ b
   unfolding sentence of-ends
   long-says b e = rw is e
 
@@ -114,9 +109,9 @@ module _ (q : Asked) (a : Fix) (l : List Fix) (s : Scan) (is : q .trail-fixes �
 
   pub says-9 : s .outside ≡ false → s .early ≡ false → s .first .0 + 65535 < s .last .0 → first (sentence trail q) fix-checks ≡ some 9
   says-9 e f g = passes _ misplaced _ (outside-says ∙ e) ∙ passes _ unordered _ (early-says ∙ f)
-      ∙ stops _ long-span _ (long-says true (long-true a (last-fix a l) (omega (arith, h .first-is, h .last-is))))
+      ∙ stops _ long-span _ (long-says true (long-true a (last-of a l) (omega (arith, h .first-is, h .last-is))))
 
   pub says-none : s .outside ≡ false → s .early ≡ false → s .last .0 ≤ s .first .0 + 65535 → first (sentence trail q) fix-checks ≡ none
   unfolding first
   says-none e f g = passes (sentence trail q) misplaced (unordered ∷ long-span ∷ []) (outside-says ∙ e) ∙ passes (sentence trail q) unordered (long-span ∷ []) (early-says ∙ f)
-      ∙ passes (sentence trail q) long-span [] (long-says false (long-false a (last-fix a l) (omega (arith, h .first-is, h .last-is))))
+      ∙ passes (sentence trail q) long-span [] (long-says false (long-false a (last-of a l) (omega (arith, h .first-is, h .last-is))))

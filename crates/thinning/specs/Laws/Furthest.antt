@@ -20,33 +20,33 @@ module _ {A : Type 0} where
   tops-most g n w t h = all-append (all-map (λ m k. omega arith) (t .before)) (all-more h (all-map (λ m k. omega arith) (t .after)))
 
   -- what `furthest` finds ..
-  pub data Found (g : A → ℕ) : List A → Split A → Type 0 where
-    found-none : Found g [] nowhere
-    found-at : {p q : List A} {w : A} → Tops g p w q → Found g (p ++ w ∷ q) (split-at p w q)
+  pub data FurthestFound (g : A → ℕ) : List A → Split A → Type 0 where
+    found-none : FurthestFound g [] nowhere
+    found-at : {p q : List A} {w : A} → Tops g p w q → FurthestFound g (p ++ w ∷ q) (split-at p w q)
 
-  found-sooner : (g : A → ℕ) (m : A) {l : List A} {s : Split A} → Found g l s → Found g (m ∷ l) (sooner g m l s)
+  found-sooner : (g : A → ℕ) (m : A) {l : List A} {s : Split A} → FurthestFound g l s → FurthestFound g (m ∷ l) (sooner g m l s)
   unfolding sooner
   found-sooner g m found-none = found-at {p = []} (record { before = all-none; after = all-none })
   found-sooner g m (found-at {p} {q} {w} t) = go (test (g w) (g m))
     where
-      go : {b : Bool} → Test (g w) (g m) b → Found g (m ∷ (p ++ w ∷ q)) (cond b (split-at [] m (p ++ w ∷ q)) (split-at (m ∷ p) w q))
+      go : {b : Bool} → Test (g w) (g m) b → FurthestFound g (m ∷ (p ++ w ∷ q)) (cond b (split-at [] m (p ++ w ∷ q)) (split-at (m ∷ p) w q))
       go (holds h) = found-at {p = []} (record { before = all-none; after = tops-most g (g m) w t h })
       go (fails h) = found-at {p = m ∷ p} (record { before = all-more h (t .before); after = t .after })
 
-  pub found : (g : A → ℕ) (l : List A) → Found g l (furthest g l)
+  pub furthest-found : (g : A → ℕ) (l : List A) → FurthestFound g l (furthest g l)
   unfolding furthest
-  found g [] = found-none
-  found g (m ∷ l) = found-sooner g m (found g l)
+  furthest-found g [] = found-none
+  furthest-found g (m ∷ l) = found-sooner g m (furthest-found g l)
 
   -- .. and it finds nothing else
-  sooner-head : (g : A → ℕ) (w : A) {q : List A} {s : Split A} → Found g q s → All (λ m. g m ≤ g w) q → sooner g w q s ≡ split-at [] w q
+  sooner-head : (g : A → ℕ) (w : A) {q : List A} {s : Split A} → FurthestFound g q s → All (λ m. g m ≤ g w) q → sooner g w q s ≡ split-at [] w q
   unfolding sooner
   sooner-head g w found-none h = refl
   sooner-head g w (found-at {p} t) h = rw (le-leb _ _ (all-head (all-right p h)))
 
   furthest-go : (g : A → ℕ) (w : A) {p q : List A} → All (λ m. g m < g w) p → All (λ m. g m ≤ g w) q → furthest g (p ++ w ∷ q) ≡ split-at p w q
   unfolding furthest sooner
-  furthest-go g w {q} all-none k = sooner-head g w (found g q) k
+  furthest-go g w {q} all-none k = sooner-head g w (furthest-found g q) k
   furthest-go g w (all-more h hs) k = rw (furthest-go g w hs k, lt-leb _ _ h)
 
   pub furthest-at : (g : A → ℕ) (w : A) {p q : List A} → Tops g p w q → furthest g (p ++ w ∷ q) ≡ split-at p w q

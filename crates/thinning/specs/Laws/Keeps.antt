@@ -10,7 +10,7 @@ use lib.ListN.{length, length-append}
 use Rattle.distance.specs.Integers.Tests.{Test, holds, fails, test}
 use Rattle.thinning.specs.Thinning.{Split, thin-span}
 use Rattle.distance.specs.Laws.All.{All, all-none, all-map}
-use Rattle.thinning.specs.Laws.Furthest.{Tops, tops-most, Found, found-none, found-at, found, furthest-at, every-true, every-false}
+use Rattle.thinning.specs.Laws.Furthest.{Tops, tops-most, FurthestFound, found-none, found-at, furthest-found, furthest-at, every-true, every-false}
 
 module _ {A : Type 0} (far : (i m j : A) → ℕ) (bound : (e : ℕ) (i j : A) → ℕ) where
   -- each of l is within e of the chord from i to j
@@ -48,9 +48,9 @@ module _ {A : Type 0} (far : (i m j : A) → ℕ) (bound : (e : ℕ) (i j : A) �
       → Keeps e i l j ((thin-span far bound n e i l j) .kept) ((thin-span far bound n e i l j) .count)
   span-keeps zero e i [] j h = rw (span-ends zero e i j [] h all-none) (ends-only all-none)
   span-keeps zero e i (m ∷ l) j h = absurd (omega arith)
-  span-keeps (suc n) e i l j h = go (found (λ m. far i m j) l) h (span-keeps n e)
+  span-keeps (suc n) e i l j h = go (furthest-found (λ m. far i m j) l) h (span-keeps n e)
     where
-      go : {l : List A} {s : Split A} → Found (λ m. far i m j) l s → length l ≤ suc n
+      go : {l : List A} {s : Split A} → FurthestFound (λ m. far i m j) l s → length l ≤ suc n
           → ((i : A) (l : List A) (j : A) → length l ≤ n → Does n e i l j) → Does (suc n) e i l j
       go found-none h rec = rw (span-ends (suc n) e i j [] h all-none) (ends-only all-none)
       go (found-at {p} {q} {w} t) h rec = at-top (test (far i w j) (bound e i j))

@@ -5,9 +5,10 @@ use Prim.Native.Nat.{ℕ, suc, _+_, _*_, _≤_}
 use native.Mathlib.Nat.{le-refl}
 use native.Mathlib.Omega.{arith}
 use lib.ListN.{length, length-append}
-use Rattle.thinning.specs.Thinning.{but-last, last, thin-span, thin}
-use Rattle.distance.specs.Laws.All.{All, all-none, all-more, all-append, all-left, all-right, all-head, all-tail}
+use Rattle.thinning.specs.Thinning.{but-last, thin-span, thin}
+use Rattle.distance.specs.Laws.All.{All, all-none, all-more, all-append, all-left, all-right, all-head, all-tail, last-more}
 use Rattle.thinning.specs.Laws.Keeps.{AllWithin, Keeps, ends-only, pieces-of, span-keeps}
+use Rattle.distance.specs.Fix.{last-of}
 
 -- ---- the two ends of a list
 pub data Ends {A : Type 0} : List A → Type 0 where
@@ -29,11 +30,6 @@ module _ {A : Type 0} where
   unfolding but-last
   but-last-snoc m [] j = refl
   but-last-snoc m (n ∷ l) j = ap (λ (r : List A). m ∷ r) (but-last-snoc n l j)
-
-  last-snoc : (m : A) (l : List A) (j : A) → last m (l ++ j ∷ []) ≡ j
-  unfolding last
-  last-snoc m [] j = refl
-  last-snoc m (n ∷ l) j = last-snoc n l j
 
   pub sublist-length : {l k : List A} → Sublistᴰ k l → length k ≤ length l
   sublist-length Sublistᴰ·slnil = omega arith
@@ -78,9 +74,9 @@ module _ {A : Type 0} (far : (i m j : A) → ℕ) (bound : (e : ℕ) (i j : A) �
   pub thin-ends : (e : ℕ) (i : A) (l : List A) (j : A)
       → thin far bound e (i ∷ (l ++ j ∷ []))
       ≡ record { kept = i ∷ ((thin-span far bound (length l) e i l j) .kept ++ j ∷ []); count = (thin-span far bound (length l) e i l j) .count }
-  unfolding thin but-last last
+  unfolding thin but-last last-of
   thin-ends e i [] j = refl
-  thin-ends e i (m ∷ l) j = rw (but-last-snoc m l j, last-snoc m l j)
+  thin-ends e i (m ∷ l) j = rw (but-last-snoc m l j, last-more m l j)
 
   pub thin-pieces : (e : ℕ) (l : List A) → Pieces e l ((thin far bound e l) .kept)
   unfolding thin

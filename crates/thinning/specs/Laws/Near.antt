@@ -1,7 +1,6 @@
 -- THE BOUND: at every fractional time of the trail its place and that of what thinning at e keeps of it are at most e apart.
 -- Within one piece, from the kept fix a to the kept fix b: at each fix m of the trail its own place is at most e from the chord's place at that second
 -- (`within-near`), and so it is on the leg between two of them (`convex`).
-use mathlib.Core.Path.{sym}
 use mathlib.Core.Bool.{Bool, cond}
 use mathlib.Core.List.{List, [], _∷_, _++_}
 use Prim.Native.Nat.{ℕ, _*_, _<_, _≤_}
@@ -10,8 +9,8 @@ use native.Mathlib.Omega.{arith}
 use borrow.Author.Tests.{le-leb}
 use Rattle.distance.specs.Fix.{Fix, After, later, Rising, rising}
 use Rattle.distance.specs.Distance.{deviation, allowance}
-use Rattle.distance.specs.Place.{Time, second, From, Until, Place, own, leg, place-from, place, Near, Same}
-use Rattle.distance.specs.Laws.Near.{near-self, near-same}
+use Rattle.distance.specs.Place.{Time, second, From, Until, own, leg, place-from, place, Near}
+use Rattle.distance.specs.Laws.Near.{near-self, near-same, same-swap}
 use Rattle.distance.specs.Laws.Chord.{within-near}
 use Rattle.distance.specs.Laws.Convex.{convex}
 use Rattle.distance.specs.Laws.Place.{after-last, after-rest, leg-proper, own-proper, leg-first, leg-last, place-past}
@@ -20,9 +19,6 @@ use Rattle.thinning.specs.Thinning.{thinned}
 use Rattle.distance.specs.Laws.All.{All, all-none, all-more}
 use Rattle.thinning.specs.Laws.Kept.{Pieces, no-piece, alone, piece}
 use Rattle.thinning.specs.Laws.Trail.{dropped-within}
-
-same-swap : {P Q : Place} → Same P Q → Same Q P
-same-swap s = record { same-x = sym (s .same-x); same-y = sym (s .same-y) }
 
 -- m's own place is at most e from where the chord from a to b has the cart at that second
 abbrev Beside : (e : ℕ) (a m b : Fix) → Type 0

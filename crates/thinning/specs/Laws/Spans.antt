@@ -6,12 +6,12 @@ use mathlib.Core.List.{List, _∷_}
 use Prim.Native.Nat.{ℕ, zero, suc, _+_, _<_, _≤_}
 use native.Mathlib.Nat.{eq-or-lt-of-le}
 use native.Mathlib.Omega.{arith}
-use Rattle.distance.specs.Fix.{Fix, Placed, After, later, Rising, rising}
+use Rattle.distance.specs.Fix.{Fix, Bounded, After, later, Rising, rising, last-of}
 use Rattle.distance.specs.Distance.{deviation}
 use Rattle.distance.specs.Span.{Span}
 use Rattle.distance.specs.Laws.All.{All, all-more}
 use Rattle.format.specs.Format.{trail, count-field, fix-at, each}
-use Rattle.record.specs.Checks.{IsAccepted, some-outside, some-early, last-fix, of-ends, too-long}
+use Rattle.record.specs.Checks.{IsAccepted, some-outside, some-early, of-ends, too-long}
 use Rattle.record.specs.Laws.Accepted.{Good, accepted-good, places-good, times-good, span-good}
 use Rattle.thinning.specs.Spans.{Spans}
 
@@ -44,12 +44,12 @@ module _ (f : ℕ → Fix) where
   in-order k n h i j p q r = ⊎-elim (λ (e : i ≡ j). rw e (omega arith)) (λ (l : i < j). omega (arith, ordered k n h i j p l r)) (eq-or-lt-of-le q)
 
 -- the last fix by position
-pub last-at : (f : ℕ → Fix) (k n : ℕ) → last-fix (f k) (each f (suc k) n) ≡ f (k + n)
-unfolding last-fix each
+pub last-at : (f : ℕ → Fix) (k n : ℕ) → last-of (f k) (each f (suc k) n) ≡ f (k + n)
+unfolding last-of each
 last-at f k zero = let e : k + 0 ≡ k = omega arith in rw e refl
 last-at f k (suc n) = let e : k + suc n ≡ suc k + n = omega arith in rw e (last-at f (suc k) n)
 
-pub spans-of : (f : ℕ → Fix) (n : ℕ) → All (Placed 16000) (each f 0 (suc n)) → After ((f 0) .t) (each f 1 n) → (f n) .t ≤ (f 0) .t + 65535 → Spans f (suc n)
+pub spans-of : (f : ℕ → Fix) (n : ℕ) → All (Bounded 16000) (each f 0 (suc n)) → After ((f 0) .t) (each f 1 n) → (f n) .t ≤ (f 0) .t + 65535 → Spans f (suc n)
 spans-of f n placed times short = record {
   spans = λ i m j p q r.
       let before = in-order f 0 n times 0 i (omega arith) (omega arith) (omega arith) in

@@ -20,7 +20,7 @@ use Rattle.record.specs.Answers.{Answer, gives, turns-away}
 use Rattle.format.specs.Laws.Each.{length-each}
 use Rattle.format.specs.Laws.Layout.{length-record}
 use Rattle.format.specs.Laws.RoundTrip.{AreBytes, read-record, bytes-in-range, record-are-bytes}
-use Rattle.record.specs.Laws.Accepted.{GoodMark, applied, never-applied, GoodFixes, accepted-good, accept, places-good, good-places, times-good, good-times}
+use Rattle.record.specs.Laws.Accepted.{GoodMark, mark-applied, mark-never-applied, GoodFixes, accepted-good, accept, places-good, good-places, times-good, good-times}
 use Rattle.thinning.specs.Thinning.{thinned}
 use Rattle.thinning.specs.Aging.{Call, by-tolerance, by-days, left-by, answered, age-answer, aged, aged-by-days, days-give, new-mark, thinned-record, Row, day-table, last-row, record-at, applies}
 use Rattle.thinning.specs.Laws.Trail.{kept-all, kept-rising, ends-stay, SameEnds, no-fixes, same-ends, no-more}
@@ -47,8 +47,8 @@ kept-some (same-ends e) h = omega arith
 -- ---- the mark
 mark-kept : (m e : ℕ) → GoodMark m → e ≤ 32000 → GoodMark (new-mark m e)
 unfolding new-mark
-mark-kept m e (applied h) g = rw (ne-eqb m 65535 (λ z. omega arith)) (applied (omega arith))
-mark-kept m e (never-applied h) g = rw (eq-eqb m 65535 h) (applied g)
+mark-kept m e (mark-applied h) g = rw (ne-eqb m 65535 (λ z. omega arith)) (mark-applied (omega arith))
+mark-kept m e (mark-never-applied h) g = rw (eq-eqb m 65535 h) (mark-applied g)
 
 -- ---- WHAT A THINNING LEAVES
 pub record ThinnedTo (b : List ℕ) (e : ℕ) (c : List ℕ) : Type 0 where
@@ -85,16 +85,16 @@ thins b e bytes a h =
     }
   where
     mark-small : {m : ℕ} → GoodMark m → m < 65536
-    mark-small (applied h) = omega arith
-    mark-small (never-applied h) = omega arith
+    mark-small (mark-applied h) = omega arith
+    mark-small (mark-never-applied h) = omega arith
 
 -- ---- the table's tolerances are low
-rows-low : (found : Option ℕ) (rows : List Row) (d e : ℕ) → ((t : ℕ) → found ≡ some t → t ≤ 32000) → All (λ (r : Row). r .row-tolerance ≤ 32000) rows → last-row found rows d ≡ some e → e ≤ 32000
+rows-low : (so-far : Option ℕ) (rows : List Row) (d e : ℕ) → ((t : ℕ) → so-far ≡ some t → t ≤ 32000) → All (λ (r : Row). r .row-tolerance ≤ 32000) rows → last-row so-far rows d ≡ some e → e ≤ 32000
 unfolding last-row
-rows-low found [] d e f all-none h = f e h
-rows-low found (r ∷ rows) d e f (all-more g t) h = rows-low (cond (leb (r .day) d) (some (r .row-tolerance)) found) rows d e (go (leb (r .day) d)) t h
+rows-low so-far [] d e f all-none h = f e h
+rows-low so-far (r ∷ rows) d e f (all-more g t) h = rows-low (cond (leb (r .day) d) (some (r .row-tolerance)) so-far) rows d e (go (leb (r .day) d)) t h
   where
-    go : (b : Bool) (t : ℕ) → cond b (some (r .row-tolerance)) found ≡ some t → t ≤ 32000
+    go : (b : Bool) (t : ℕ) → cond b (some (r .row-tolerance)) so-far ≡ some t → t ≤ 32000
     go true t e = let z : r .row-tolerance ≡ t = cc in omega arith
     go false t e = f t e
 
@@ -150,7 +150,7 @@ pub others-apply : (e : ℕ) → e ≤ 32000 → applies (by-tolerance e) ≡ so
 unfolding applies
 others-apply e h = rw (le-leb e 32000 h) refl
 
--- A tolerance that is applied is within the limit.
+-- A tolerance that is mark-applied is within the limit.
 pub applies-low : (c : Call) (e : ℕ) → applies c ≡ some e → e ≤ 32000
 unfolding applies
 applies-low (by-tolerance t) e h = go (test t 32000) h

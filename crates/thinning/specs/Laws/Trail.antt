@@ -1,43 +1,36 @@
 -- The laws of thinning, at fixes.
 use mathlib.Core.Path.{_≡_, refl, sym, _∙_}
+use mathlib.Core.Logic.{_↔_}
+use mathlib.Core.Bool.{true}
 use mathlib.Core.List.{List, [], _∷_, Sublistᴰ}
 use Prim.Native.Nat.{ℕ, zero, suc, _+_, _*_, _-_, _<_, _≤_, max}
-use native.Mathlib.Nat.{max-eq-left, max-eq-right}
 use native.Mathlib.Omega.{arith}
 use lib.Dec.{leb}
+use borrow.Author.Tests.{leb-true, le-leb}
 use lib.ListN.{length}
-use Rattle.distance.specs.Fix.{Fix, Rising, rising, later}
-use Rattle.distance.specs.Distance.{deviation, allowance, within}
+use Rattle.distance.specs.Fix.{Fix, Rising, rising, later, last-of}
+use Rattle.distance.specs.Distance.{deviation, allowance, Within}
 use Rattle.distance.specs.Laws.Deviation.{allowance-grows}
 use Rattle.distance.specs.Laws.Place.{after-last, after-rest}
-use Rattle.record.specs.Checks.{last-fix}
-use Rattle.record.specs.Laws.Scan.{last-more}
 use Rattle.thinning.specs.Thinning.{thin-span, thin, thinning, thinned}
-use Rattle.distance.specs.Laws.All.{All}
+use Rattle.distance.specs.Laws.All.{All, last-more}
 use Rattle.thinning.specs.Laws.Kept.{Ends, no-end, one-end, two-ends, ends, Pieces, no-piece, alone, piece, thin-ends, sublist-length, thin-pieces, thin-sublist, thin-all, thin-count}
 use Rattle.thinning.specs.Laws.Again.{thin-again, thin-greater}
 
 -- the test that `thin-span` makes of each inner fix is the distance layer's
-pub tested : (e : ℕ) (i m j : Fix) → leb (deviation i m j) (allowance e i j) ≡ within e i m j
-unfolding within
-tested e i m j = refl
+pub tested : (e : ℕ) (i m j : Fix) → leb (deviation i m j) (allowance e i j) ≡ true ↔ Within e i m j
+tested e i m j = (λ h. record { at-most = leb-true _ _ h }, λ h. le-leb _ _ (h .at-most))
 
 -- ---- "thin again what was thinned": the greater tolerance decides, in both orders, and a tolerance that is no greater changes nothing
 pub again : (e f : ℕ) (l : List Fix) → thinned f (thinned e l) ≡ thinned (max e f) l
 unfolding thinning
 again e f l = thin-again deviation allowance allowance-grows e f l
 
-pub again-greater : (e f : ℕ) (l : List Fix) → e ≤ f → thinned f (thinned e l) ≡ thinned f l
-again-greater e f l h = rw (again e f l, max-eq-right h)
-
-pub again-no-greater : (e f : ℕ) (l : List Fix) → f ≤ e → thinned f (thinned e l) ≡ thinned e l
-again-no-greater e f l h = rw (again e f l, max-eq-left h)
-
 -- ---- which fixes stay
 -- the first and the last
 pub data SameEnds : (l k : List Fix) → Type 0 where
   no-fixes : SameEnds [] []
-  same-ends : {i : Fix} {l k : List Fix} → last-fix i k ≡ last-fix i l → SameEnds (i ∷ l) (i ∷ k)
+  same-ends : {i : Fix} {l k : List Fix} → last-of i k ≡ last-of i l → SameEnds (i ∷ l) (i ∷ k)
 
 pub ends-stay : (e : ℕ) (l : List Fix) → SameEnds l (thinned e l)
 unfolding thinning thin

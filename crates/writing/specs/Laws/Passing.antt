@@ -58,11 +58,11 @@ Room-for m (Puts at) output = at + 8 * m ≤ output
 Room-for m (Refused k) output = Unit {0}
 
 -- between the passes over the list s: it is refused and the output l is as it was, or the head is put down
-abbrev pub Ready : List Fix → List ℕ → Stage → List ℕ → Type 0
-Ready s l Begins c = ⊥
-Ready s l (Checks r) c = ⊥
-Ready s l (Puts at) c = (at ≡ 10) × (write-refusal trail s l ≡ none) × (c ≡ sets l 0 (header-bytes trail 65535 (length s)))
-Ready s l (Refused k) c = (write-refusal trail s l ≡ some k) × (c ≡ l)
+abbrev pub Prepared : List Fix → List ℕ → Stage → List ℕ → Type 0
+Prepared s l Begins c = ⊥
+Prepared s l (Checks r) c = ⊥
+Prepared s l (Puts at) c = (at ≡ 10) × (write-refusal trail s l ≡ none) × (c ≡ sets l 0 (header-bytes trail 65535 (length s)))
+Prepared s l (Refused k) c = (write-refusal trail s l ≡ some k) × (c ≡ l)
 
 -- after them the stage stands at the record's end, or the list is refused
 abbrev pub Finished : Stage → Type 0
@@ -156,7 +156,7 @@ passed-timed l c s (Puts at) h = absurd h
 passed-timed l c s (Refused k) h = absurd h
 
 -- ---- between the passes, and after the second
-pub ready-refused : (s : List Fix) (l : List ℕ) (k : ℕ) → write-refusal trail s l ≡ some k → Ready s l (Refused k) l
+pub ready-refused : (s : List Fix) (l : List ℕ) (k : ℕ) → write-refusal trail s l ≡ some k → Prepared s l (Refused k) l
 ready-refused s l k h = (h, refl)
 
 -- what the pass is for that a stage begins
@@ -168,7 +168,7 @@ task-of (Refused k) = turned k
 
 module _ (s : List Fix) (l : List ℕ) where
   -- the second pass has room, and begins with no fix put down
-  pub ready-room : (p : Stage) (c : List ℕ) → Ready s l p c → Room-for (length s) p (length c)
+  pub ready-room : (p : Stage) (c : List ℕ) → Prepared s l p c → Room-for (length s) p (length c)
   ready-room Begins c x = tt
   ready-room (Checks r) c x = tt
   ready-room (Puts at) c (e, none-refused, holds) =
@@ -177,7 +177,7 @@ module _ (s : List Fix) (l : List ℕ) where
       omega (arith, e, fits, same)
   ready-room (Refused k) c x = tt
 
-  pub ready-passes : (p : Stage) (c : List ℕ) → Ready s l p c → Passed (task-of p) c [] p c
+  pub ready-passes : (p : Stage) (c : List ℕ) → Prepared s l p c → Passed (task-of p) c [] p c
   unfolding all-bytes
   ready-passes Begins c x = absurd x
   ready-passes (Checks r) c x = absurd x
@@ -185,10 +185,10 @@ module _ (s : List Fix) (l : List ℕ) where
   ready-passes (Refused k) c x = (refl, refl)
 
   -- so the stage ends as the writer does
-  pub passes-end : (p r : Stage) (c d : List ℕ) → Ready s l p c → Passed (task-of p) c s r d → Finished r × (stage-answer r ≡ write-answer trail s l) × (d ≡ written trail s l)
+  pub passes-end : (p r : Stage) (c d : List ℕ) → Prepared s l p c → Passed (task-of p) c s r d → Finished r × (stage-answer r ≡ write-answer trail s l) × (d ≡ written trail s l)
   passes-end p r c d ready passed = go p r ready passed
     where
-      go : (p r : Stage) → Ready s l p c → Passed (task-of p) c s r d → Finished r × (stage-answer r ≡ write-answer trail s l) × (d ≡ written trail s l)
+      go : (p r : Stage) → Prepared s l p c → Passed (task-of p) c s r d → Finished r × (stage-answer r ≡ write-answer trail s l) × (d ≡ written trail s l)
       go (Puts at) (Puts end) (e, none-refused, holds) (stands, put) =
           let few = writes-fit s (length l) none-refused .0 in
           (omega (arith, stands, few), ap gives stands ∙ writes-length s l (length s) refl none-refused, put ∙ rw holds (writes-record s l (length s) refl none-refused))

@@ -2,7 +2,7 @@ use mir.Syntax.{w32, w64}
 use mir.Facts.{toZ-ofZ}
 use mathlib.Core.Path.{sym, _∙_, ap}
 use Rattle.moment.specs.Answers.{placed}
-use Rattle.export.specs.Interface.{spot}
+use Rattle.export.specs.Interface.{spot-numbers}
 use Rattle.export.specs.Laws.{spot-at}
 use borrow.Author.Needs.{needs}
 use Rattle.export.proofs.questions_of.spot_of.Statement.{statement}
@@ -40,7 +40,7 @@ returns c =
     (p .1)
 
 returns-2 : tie.Need-returns-2
-returns-2 c = rw (c .wide .ensures) (ap spot (sym (ap placed (c .before .before .p2 .given .1))))
+returns-2 c = rw (c .wide .ensures) (ap spot-numbers (sym (ap placed (c .before .before .p2 .given .1))))
 
 pub spot-of-spec : {M : Type 1} → statement M
 spot-of-spec =

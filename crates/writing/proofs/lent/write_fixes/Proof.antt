@@ -48,7 +48,7 @@ use Rattle.distance.proofs.Fix as T
 use Rattle.format.specs.Format.{trail}
 use Rattle.writing.specs.Answers.{wrote}
 use Rattle.writing.specs.Writing.{lent-fixes, write-refusal, write-answer, written, ReadsBack}
-use Rattle.writing.specs.Laws.Passing.{Task, checks, Passed, Room-for, Ready, Finished, stage-answer, task-of, length-lent, ready-room, ready-passes, passes-end, first-room, output-alone, passed-timed}
+use Rattle.writing.specs.Laws.Passing.{Task, checks, Passed, Room-for, Prepared, Finished, stage-answer, task-of, length-lent, ready-room, ready-passes, passes-end, first-room, output-alone, passed-timed}
 use Rattle.record.specs.Laws.Scan.{Timed}
 use Rattle.writing.specs.Laws.ReadsBack.{writes-back}
 use Rattle.distance.specs.Laws.All.{All}
@@ -207,11 +207,11 @@ module _ {M : Type 1} (𝓤 : URA M) (H : Heap 𝓤) (A : Atoms 𝓤) (W : Given
       nothing ! $ move ! (2 ∷ 0 ∷ []) $ join ! $ join ! $ frame ! $ done !
 
   abbrev MadeReady : List ℕ → Stage → Stage → List ℕ → Type 0
-  MadeReady c r r′ d = (m : List Plain) → length m ≡ n → Passed checks c m r c → Ready m c r′ d
+  MadeReady c r r′ d = (m : List Plain) → length m ≡ n → Passed checks c m r c → Prepared m c r′ d
 
   -- where the first pass left the output alone, what is ready is so of the output as it was lent
-  ready-from : (l : List ℕ) → l ≡ ys → (r t : Stage) (d : List ℕ) → MadeReady l r t d → Passed checks ys (lent-fixes fs) r l → Ready (lent-fixes fs) ys t d
-  ready-from l same r t d e passed = subst (λ (y : List ℕ). Ready (lent-fixes fs) y t d) same (e (lent-fixes fs) (length-lent fs) (subst (λ (y : List ℕ). Passed checks y (lent-fixes fs) r l) (sym same) passed))
+  ready-from : (l : List ℕ) → l ≡ ys → (r t : Stage) (d : List ℕ) → MadeReady l r t d → Passed checks ys (lent-fixes fs) r l → Prepared (lent-fixes fs) ys t d
+  ready-from l same r t d e passed = subst (λ (y : List ℕ). Prepared (lent-fixes fs) y t d) same (e (lent-fixes fs) (length-lent fs) (subst (λ (y : List ℕ). Passed checks y (lent-fixes fs) r l) (sym same) passed))
 
   -- the call of `stage_says`
   abbrev to-says : Stage → Val → StageSays 𝓤 H A mem run .Ghost
@@ -239,7 +239,7 @@ module _ {M : Type 1} (𝓤 : URA M) (H : Heap 𝓤) (A : Atoms 𝓤) (W : Given
         ∷ ‵ (froom lentT l₁₂ 0) ∷ ‵ (fdies lentT l₁₂) ∷ ‵ (froom lentRef l₁₁ 0) ∷ ‵ (fdies lentRef l₁₁) ∷ ‵ (froom lentT l₁₀ 0) ∷ ‵ (fdies lentT l₁₀) ∷ ‵ (froom lentRef l₉ 0) ∷ ‵ (fdies lentRef l₉) ∷ ‵ (froom P′.mir l₈ 0) ∷ ‵ (fdies P′.mir l₈) ∷ ‵ (froom lentT l₇ 0) ∷ ‵ (fdies lentT l₇)
         ∷ ‵ (froom lentRef l₆ 0) ∷ ‵ (fdies lentRef l₆) ∷ ‵ (fat fullShare P′.mir l₅ 0 u) ∷ ‵ (fdies P′.mir l₅) ∷ ‵ (froom P′.mir l₄ 0) ∷ ‵ (fdies P′.mir l₄) ∷ ‵ (fat fullShare word l₃ 0 (vint w64 n)) ∷ ‵ (fdies word l₃) ∷ ‵ (fat fullShare outT l₂ 0 (v′ (length l))) ∷ ‵ (fdies outT l₂) ∷ ‵ (fat fullShare fixesT l₁ 0 v) ∷ ‵ (fdies fixesT l₁) ∷ ‵ (froom Wr′.mir l₀ 0) ∷ ‵ (fdies Wr′.mir l₀) ∷ []
 
-    second-pass : (r : Stage) (u : Val) (l : List ℕ) → IsStage r u → length l ≡ length ys → Ready (lent-fixes fs) ys r l → All Timed (lent-fixes fs) → Sq W (AtSecond l u) (runs C Λ En body.t-9 (atRet En Post))
+    second-pass : (r : Stage) (u : Val) (l : List ℕ) → IsStage r u → length l ≡ length ys → Prepared (lent-fixes fs) ys r l → All Timed (lent-fixes fs) → Sq W (AtSecond l u) (runs C Λ En body.t-9 (atRet En Post))
     second-pass r u l is len ready timed =
         assigns ! (addr ! (from ! (fld ! refl (hop ! (look-in ! 24 (sub ! 0 refl (whole !))) (stop !))))) (from ! (stop !)) (init ! 6 refl (tt, tt)) $
         assigns ! (agg ! (and-then ! (load ! (from ! (stop !)) (look ! 6 refl)) (and-then ! (load ! (from ! (fld ! refl (stop !))) (look-in ! 24 (sub ! 1 refl (whole !)))) (no-more !)))) (from ! (stop !)) (init ! 4 refl (tt, (tt, (record { fits = room-of l len .0 }, tt)))) $
