@@ -1,4 +1,5 @@
--- What the enums of the code say, as the paper's numbers and values.
+-- What the enums of the code say, as the paper's numbers and values. `declared.X` is the struct or enum X of the code, and `.0` the number in a struct of
+-- one field.
 use mathlib.Core.Option.{Option, some, none}
 use Rattle.record.specs.Answers.{Answer, gives, turns-away}
 use Rattle.legs.specs.declared.Fraction.{Fraction}
@@ -9,7 +10,7 @@ use Rattle.distance.specs.Box.{Box}
 
 -- Yes with its time, no, or the refusal.
 abbrev pub crossed : Crossed → Answer (Option Fraction)
-crossed (Cross.Told n d) = gives (some (record { num = n; den = d }))
+crossed (Cross.Told f) = gives (some f)
 crossed Cross.Denied = gives none
 crossed (Cross.Refused k) = turns-away k
 

@@ -8,8 +8,8 @@ use Rattle.distance.specs.Fix.{Fix}
 use Rattle.distance.specs.Place.{Time, From, Until, place}
 use Rattle.distance.specs.Box.{Box, In}
 use Rattle.format.specs.Format.{Kind, fixes}
-use Rattle.record.specs.Checks.{Given, asked-of, nothing, refusal, crossing}
-use Rattle.record.specs.Answers.{Answer, answer}
+use Rattle.record.specs.Checks.{Given, asked-of, nothing, refusal, crossing, checks, sentence, FirstHolds}
+use Rattle.record.specs.Answers.{Answer, gives, turns-away, answer}
 use Rattle.legs.specs.declared.Fraction.{Fraction}
 use Rattle.legs.specs.Legs.{raised, framed, leg-first}
 use Rattle.legs.specs.declared.Frame.{Frame}
@@ -40,7 +40,7 @@ pub record Told (l : List Fix) (box : Box) (s e n d : ℕ) : Type 0 where
 abbrev pub Denied : List Fix → Box → (s e : ℕ) → Type 0
 Denied l box s e = (u : Time) → Crosses l box s e u → ⊥
 
--- What yes with a time means, and what no means. (`crossing-means` of Laws/Crossing.antt: what `first-crossing` of Legs.antt computes means it.)
+-- What yes with a time means, and what no means.
 abbrev pub Means : List Fix → Box → (s e : ℕ) → Option Fraction → Type 0
 Means l box s e (some f) = Told l box s e (f .num) (f .den)
 Means l box s e none = Denied l box s e
@@ -74,5 +74,14 @@ asked-crossing s e box = record {
 }
 
 -- On lent bytes: "the crossing 1 to 9, 13, 14".
+abbrev pub cross-refusal : Kind → List ℕ → (s e : ℕ) → Box → Option ℕ
+cross-refusal K b s e box = refusal K crossing (asked-of K b (asked-crossing s e box))
+
 abbrev pub cross-answer : Kind → List ℕ → (s e : ℕ) → Box → Answer (Option Fraction)
-cross-answer K b s e box = answer (refusal K crossing (asked-of K b (asked-crossing s e box))) (first-crossing (K .limit) (fixes K b) box s e)
+cross-answer K b s e box = answer (cross-refusal K b s e box) (first-crossing (K .limit) (fixes K b) box s e)
+
+-- What an answer says of lent bytes, whatever computed it: yes and no mean what is said above, of the record's fixes; and a refusal's number is that of the
+-- first of the crossing's checks whose sentence holds. (`cross-means` of Laws/Checking.antt: `cross-answer` says it truly.)
+abbrev pub CrossMeans : Kind → List ℕ → (s e : ℕ) → Box → Answer (Option Fraction) → Type 0
+CrossMeans K b s e box (gives o) = Means (fixes K b) box s e o
+CrossMeans K b s e box (turns-away k) = FirstHolds (sentence K (asked-of K b (asked-crossing s e box))) k (checks crossing)

@@ -1,6 +1,7 @@
 // The questions layer: when a trail crosses a box.
 use distance::Duration;
 use distance::Seconds;
+use legs::Fraction;
 use legs::Frame;
 use legs::Meeting;
 use legs::Raised;
@@ -12,12 +13,13 @@ use record::Checked;
 ghost use mathlib.Core.Path.{_≡_};
 ghost use Prim.Native.Nat.{_+_, _*_, _-_, _≤_};
 ghost use lib.Signed.{ltZ};
-ghost use Rattle.record.specs.Answers.{gives};
+ghost use mathlib.Core.Option.{none};
+ghost use Rattle.record.specs.Answers.{gives, refused};
 ghost use lib.ListN.{length};
 ghost use Rattle.format.specs.Format.{trail, fix-at};
 ghost use Rattle.record.specs.Checks.{IsAccepted, outside};
 ghost use Rattle.legs.specs.Legs.{raised, framed};
-ghost use Rattle.crossing.specs.Crossing.{first-from, cross-answer};
+ghost use Rattle.crossing.specs.Crossing.{first-from, cross-refusal, cross-answer, CrossMeans};
 ghost use Rattle.legs.specs.Answers.{meeting};
 ghost use Rattle.crossing.specs.Answers.{crossed, boxOf};
 ghost use Rattle.record.specs.Laws.Trail.{from};
@@ -42,9 +44,9 @@ pub struct Edges {
     pub top: Edge,
 }
 
-// What the crossing question answers: the time n/d seconds after the first fix, or no, or the refusal.
+// What the crossing question answers: yes with the earliest time, or no, or the refusal.
 pub enum Crossed {
-    Told(u32, u16),
+    Told(Fraction),
     Denied,
     Refused(u8),
 }
@@ -144,26 +146,47 @@ fn told(r: Meeting) -> Crossed
     ensures { λ c. ⌜ crossed c ≡ gives (meeting r) ⌝ }
 {
     match r {
-        Meeting::At(f) => Crossed::Told(f.num, f.den),
+        Meeting::At(f) => Crossed::Told(f),
         Meeting::Never => Crossed::Denied,
     }
 }
 
-// Checks 13 and 14, and the answer, of a record that is accepted.
-fn cross_accepted(b: &[u8], w: Window, e: Edges) -> Crossed
+// Checks 13 and 14, of a record that is accepted.
+fn question_says(b: &[u8], w: Window, e: Edges) -> Checked
     requires { ⌜ IsAccepted trail (now b) ⌝ }
-    ensures { λ r. ⌜ crossed r ≡ cross-answer trail (now (b .entry)) (w .start .0) (w .end .0) (boxOf e) ⌝ }
+    ensures { λ r. ⌜ refused r ≡ cross-refusal trail (now (b .entry)) (w .start .0) (w .end .0) (boxOf e) ⌝ }
 {
     let n = format::count_at(b);
     let first = format::fix_at(b, 0);
     let last = format::fix_at(b, n - 1);
-    let zero = first.t;
-    if window_outside(w, zero, last.t) {
-        return Crossed::Refused(13);
+    if window_outside(w, first.t, last.t) {
+        return Checked::Refused(13);
     }
     if edges_outside(e) {
-        return Crossed::Refused(14);
+        return Checked::Refused(14);
     }
+    Checked::Accepted
+}
+
+// The crossing's checks: 1 to 9, 13 and 14.
+pub fn cross_says(b: &[u8], w: Window, e: Edges) -> Checked
+    ensures { λ r. ⌜ refused r ≡ cross-refusal trail (now (b .entry)) (w .start .0) (w .end .0) (boxOf e) ⌝ }
+{
+    let v = record::check(b);
+    match v {
+        Checked::Refused(k) => Checked::Refused(k),
+        Checked::Accepted => question_says(b, w, e),
+    }
+}
+
+// The answer to a question that none of its checks turns away.
+pub fn cross_asked(b: &[u8], w: Window, e: Edges) -> Crossed
+    requires { ⌜ cross-refusal trail (now b) (w .start .0) (w .end .0) (boxOf e) ≡ none ⌝ }
+    ensures { λ r. ⌜ crossed r ≡ cross-answer trail (now (b .entry)) (w .start .0) (w .end .0) (boxOf e) ⌝ }
+{
+    let n = format::count_at(b);
+    let first = format::fix_at(b, 0);
+    let zero = first.t;
     let opens = since(zero, w.start);
     let closes = since(zero, w.end);
     told(first_crossing(b, n, framed(e), zero, opens, closes))
@@ -171,11 +194,11 @@ fn cross_accepted(b: &[u8], w: Window, e: Edges) -> Crossed
 
 // Whether the trail of a record crosses a box in a window, and the earliest time in seconds after the first fix.
 pub fn crosses(b: &[u8], w: Window, e: Edges) -> Crossed
-    ensures { λ r. ⌜ crossed r ≡ cross-answer trail (now (b .entry)) (w .start .0) (w .end .0) (boxOf e) ⌝ }
+    ensures { λ r. ⌜ (crossed r ≡ cross-answer trail (now (b .entry)) (w .start .0) (w .end .0) (boxOf e)) × CrossMeans trail (now (b .entry)) (w .start .0) (w .end .0) (boxOf e) (crossed r) ⌝ }
 {
-    let v = record::check(b);
+    let v = cross_says(b, w, e);
     match v {
         Checked::Refused(k) => Crossed::Refused(k),
-        Checked::Accepted => cross_accepted(b, w, e),
+        Checked::Accepted => cross_asked(b, w, e),
     }
 }

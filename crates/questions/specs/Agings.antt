@@ -3,18 +3,44 @@
 use mathlib.Core.List.{List, [], _∷_}
 use mathlib.Core.Option.{Option, some, none}
 use mathlib.Core.Bool.{cond}
-use Prim.Native.Nat.{ℕ, _%_, max}
+use Prim.Native.Nat.{ℕ, _+_, _%_, max}
 use lib.Dec.{ltb}
 use Rattle.distance.specs.Fix.{Fix, last-of}
 use Rattle.distance.specs.Place.{Time, From, Until}
-use Rattle.format.specs.Format.{never}
+use Rattle.distance.specs.Box.{Box}
+use Rattle.format.specs.Format.{trail, never, fixes}
+use Rattle.record.specs.Checks.{read-refusal}
+use Rattle.record.specs.Answers.{Answer, gives, turns-away, answer, unless}
 use Rattle.thinning.specs.Thinning.{thinned}
-use Rattle.thinning.specs.Aging.{Call, by-tolerance, by-days, left-by, applies}
+use Rattle.thinning.specs.Aging.{Call, by-tolerance, by-days, left-by, answered, applies}
+use Rattle.legs.specs.declared.Fraction.{Fraction}
+use Rattle.crossing.specs.Crossing.{cross-refusal, first-crossing}
 
 -- "Every call [..] gets the buffer as the call before it left it, and nobody else writes it meanwhile."
 unfoldable pub run : List ℕ → List Call → List ℕ
 run b [] = b
 run b (c ∷ calls) = run (left-by b c) calls
+
+-- What making a list answers: the record's refusal, and then nothing is done (`run-refused` of Laws/Agings.antt); else how many of its calls answered with a
+-- refusal, each asked of the buffer as the one before left it.
+abbrev pub one-if-refused : Answer ℕ → ℕ
+one-if-refused (gives n) = 0
+one-if-refused (turns-away k) = 1
+
+unfoldable pub refused-calls : List ℕ → List Call → ℕ
+refused-calls b [] = 0
+refused-calls b (c ∷ calls) = one-if-refused (answered b c) + refused-calls (left-by b c) calls
+
+abbrev pub run-answer : List ℕ → List Call → Answer ℕ
+run-answer b calls = answer (read-refusal trail b) (refused-calls b calls)
+
+-- A crossing asked after a list, as one call: whether the question is refused is decided first, and then "all lent bytes untouched"; else the list is made
+-- and the crossing is that of what is left. (`asked-after` of Laws/Asked.antt: it is what the crossing alone answers of what the list leaves.)
+abbrev pub after-answer : List ℕ → List Call → (s e : ℕ) → Box → Answer (Option Fraction)
+after-answer b calls s e box = answer (cross-refusal trail b s e box) (first-crossing (trail .limit) (fixes trail (run b calls)) box s e)
+
+abbrev pub left-after : List ℕ → List Call → (s e : ℕ) → Box → List ℕ
+left-after b calls s e box = unless (cross-refusal trail b s e box) b (run b calls)
 
 -- "a plain book, fed each call's arguments and nothing from the program's record. It holds the original's fixes, never changed, and E, at first none."
 pub record Book : Type 0 where

@@ -14,7 +14,7 @@ use Rattle.record.specs.Answers.{Answer, gives, turns-away}
 use Rattle.thinning.specs.Aging.{Call}
 use Rattle.legs.specs.declared.Fraction.{Fraction}
 use Rattle.crossing.specs.Crossing.{Told, Denied, after-first, asked-crossing, cross-answer}
-use Rattle.questions.specs.Agings.{Book, new-book, fed-all, run, kept-at, mark-of, counts-as, AskedOf}
+use Rattle.questions.specs.Agings.{Book, new-book, fed-all, run, after-answer, kept-at, mark-of, counts-as, AskedOf}
 
 -- What the crossing's answer on the aged record c says of the original, for one window from s to e and one box.
 pub data CrossingSays (E : ℕ) (original : List Fix) (c : List ℕ) (s e : ℕ) (box : Box) : Answer (Option Fraction) → Type 0 where
@@ -47,5 +47,7 @@ pub record Claim (b : List ℕ) (calls : List Call) : Type 0 where
   pub denominators : (u : Time) → Proper (place ((book b calls) .original) u) × Proper (place (fixes trail (run b calls)) u)
   -- at every fractional time from first to last the two places are at most E apart
   pub near : (u : Time) → AskedOf ((book b calls) .original) u → Near (bound-after b calls) (place ((book b calls) .original) u) (place (fixes trail (run b calls)) u)
-  -- a crossing told or denied is true of the original within E
+  -- a crossing asked after the list is the crossing of what the list left ..
+  pub asked-then : (s e : ℕ) (box : Box) → after-answer b calls s e box ≡ cross-answer trail (run b calls) s e box
+  -- .. and told or denied it is true of the original within E
   pub crossings : (s e : ℕ) (box : Box) → CrossingSays (bound-after b calls) ((book b calls) .original) (run b calls) s e box (cross-answer trail (run b calls) s e box)

@@ -1,3 +1,4 @@
 -- What is proved of the definitions, each law once.
 pub mod Agings
+pub mod Asked
 pub mod Claim

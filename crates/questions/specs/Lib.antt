@@ -1,5 +1,6 @@
 -- What a reader must believe:
 pub mod Agings
+pub mod Answers
 pub mod Claim
 -- the worked trails, computed on those definitions:
 pub mod Worked

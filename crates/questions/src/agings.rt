@@ -3,44 +3,83 @@ use crossing::Crossed;
 use crossing::Edges;
 use crossing::Window;
 use distance::Tolerance;
+use record::Checked;
+use thinning::Aged;
 use thinning::Days;
 ghost use mathlib.Core.Path.{_≡_};
-ghost use Prim.Native.Nat.{_<_};
+ghost use Prim.Native.Nat.{_≤_};
+ghost use lib.ListN.{length};
 ghost use Rattle.format.specs.Format.{trail, never, mark-field};
 ghost use Rattle.record.specs.Checks.{IsAccepted};
-ghost use Rattle.thinning.specs.Aging.{left-by};
-ghost use Rattle.crossing.specs.Crossing.{cross-answer};
+ghost use Rattle.thinning.specs.Aging.{left-by, answered};
+ghost use Rattle.thinning.specs.Answers.{counted};
 ghost use Rattle.crossing.specs.Answers.{crossed, boxOf};
-ghost use Rattle.questions.specs.Agings.{run, call-of, calls-of};
+ghost use Rattle.questions.specs.Agings.{run, one-if-refused, refused-calls, run-answer, after-answer, left-after, call-of, calls-of};
+ghost use Rattle.questions.specs.Answers.{ran};
 ghost use Rattle.questions.specs.Claim.{Claim};
 
+// What making a list answers: how many of its calls were turned away, or the record's refusal.
+pub enum Ran {
+    TurnedAway(usize),
+    Refused(u8),
+}
+
+// 1 for a call that was turned away.
+fn turned_away(a: Aged) -> usize
+    ensures { λ r. ⌜ r ≡ one-if-refused (counted a) ⌝ }
+{
+    match a {
+        Aged::Count(_) => 0,
+        Aged::Refused(_) => 1,
+    }
+}
+
 // One call of a list: a number below 65,536 is a tolerance, and one from there on is 65,536 and days.
-fn call(b: &mut [u8], n: u32)
-    ensures { λ _. ⌜ now (b .exit) ≡ left-by (now (b .entry)) (call-of n) ⌝ }
+fn call(b: &mut [u8], n: u32) -> Aged
+    ensures { λ r. ⌜ (counted r ≡ answered (now (b .entry)) (call-of n)) × (now (b .exit) ≡ left-by (now (b .entry)) (call-of n)) ⌝ }
 {
     if n < 65536 {
-        thinning::age(b, Tolerance(n as u16));
-    } else {
-        thinning::age_by_days(b, Days((n % 65536) as u16));
+        return thinning::age(b, Tolerance(n as u16));
     }
+    thinning::age_by_days(b, Days((n % 65536) as u16))
 }
 
-// All calls of the list, each given the buffer as the one before left it.
-pub fn call_all(b: &mut [u8], calls: &[u32])
-    ensures { λ _. ⌜ now (b .exit) ≡ run (now (b .entry)) (calls-of (now (calls .entry))) ⌝ }
+// All calls of the list, each given the buffer as the one before left it; says how many were turned away.
+fn call_each(b: &mut [u8], calls: &[u32]) -> usize
+    ensures { λ r. ⌜ (r ≡ refused-calls (now (b .entry)) (calls-of (now (calls .entry)))) × (now (b .exit) ≡ run (now (b .entry)) (calls-of (now (calls .entry)))) ⌝ }
 {
+    let mut refused = 0;
     let mut i = 0;
     while i < calls.len() {
-        call(b, calls[i]);
+        refused += turned_away(call(b, calls[i]));
         i += 1;
+    }
+    refused
+}
+
+// All calls of the list, if the buffer begins with a record.
+pub fn call_all(b: &mut [u8], calls: &[u32]) -> Ran
+    ensures { λ r. ⌜ (ran r ≡ run-answer (now (b .entry)) (calls-of (now (calls .entry)))) × (now (b .exit) ≡ run (now (b .entry)) (calls-of (now (calls .entry)))) ⌝ }
+{
+    let v = record::check(b);
+    match v {
+        Checked::Refused(k) => Ran::Refused(k),
+        Checked::Accepted => Ran::TurnedAway(call_each(b, calls)),
     }
 }
 
-// All calls of the list, and then a crossing asked of what they left. Of an original, an accepted record marked never, the claim holds: what is left
-// is Douglas-Peucker's of the original at the greatest tolerance applied, and the answer is true of the original within it.
+// All calls of the list, and then a crossing asked of what they left. A question that is refused is refused first, and then nothing is done. Of an original,
+// an accepted record marked never, the claim holds: what is left is Douglas-Peucker's of the original at the greatest tolerance applied, and the answer is
+// true of the original within it.
 pub fn crosses_after(b: &mut [u8], calls: &[u32], w: Window, e: Edges) -> Crossed
-    ensures { λ r. ⌜ (now (b .exit) ≡ run (now (b .entry)) (calls-of (now (calls .entry)))) × (crossed r ≡ cross-answer trail (now (b .exit)) (w .start .0) (w .end .0) (boxOf e)) × (IsAccepted trail (now (b .entry)) → mark-field (now (b .entry)) ≡ never → Claim (now (b .entry)) (calls-of (now (calls .entry)))) ⌝ }
+    ensures { λ r. ⌜ (crossed r ≡ after-answer (now (b .entry)) (calls-of (now (calls .entry))) (w .start .0) (w .end .0) (boxOf e)) × (now (b .exit) ≡ left-after (now (b .entry)) (calls-of (now (calls .entry))) (w .start .0) (w .end .0) (boxOf e)) × (IsAccepted trail (now (b .entry)) → mark-field (now (b .entry)) ≡ never → Claim (now (b .entry)) (calls-of (now (calls .entry)))) ⌝ }
 {
-    call_all(b, calls);
-    crossing::crosses(b, w, e)
+    let v = crossing::cross_says(b, w, e);
+    match v {
+        Checked::Refused(k) => Crossed::Refused(k),
+        Checked::Accepted => {
+            call_each(b, calls);
+            crossing::cross_asked(b, w, e)
+        },
+    }
 }

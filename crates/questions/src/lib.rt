@@ -1,5 +1,6 @@
 // The questions layer: what the questions still say after any list of agings.
 mod agings;
 
+pub use agings::Ran;
 pub use agings::call_all;
 pub use agings::crosses_after;

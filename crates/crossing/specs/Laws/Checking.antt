@@ -13,14 +13,14 @@ use Rattle.distance.specs.Fix.{Fix, last-of}
 use Rattle.distance.specs.Box.{Box}
 use Rattle.distance.specs.Integers.Order.{le-of-ltZ}
 use Rattle.format.specs.Format.{trail, fix-at, count-field, fixes}
-use Rattle.record.specs.Checks.{Check, bad-window, bad-box, first, sentence, asked-of, head-checks, fix-checks, read-refusal, IsAccepted, refusal, crossing, outside, second-outside}
-use Rattle.record.specs.Answers.{gives, turns-away, answer}
-use Rattle.record.specs.Laws.First.{stops, passes, first-none, some-first, none-first, none-front, none-holds, NoneHolds, no-check, and-not, reading-alone}
+use Rattle.record.specs.Checks.{Check, bad-window, bad-box, first, sentence, asked-of, head-checks, fix-checks, read-refusal, IsAccepted, crossing, checks, outside, second-outside}
+use Rattle.record.specs.Answers.{Answer, gives, turns-away, answer}
+use Rattle.record.specs.Laws.First.{stops, passes, first-none, some-first, none-first, none-front, none-holds, NoneHolds, no-check, and-not, reading-alone, first-exactly}
 use Rattle.record.specs.Laws.Head.{neither}
 use Rattle.record.specs.Laws.Accepted.{accepted-good}
 use Rattle.legs.specs.declared.Fraction.{Fraction}
 use Rattle.legs.specs.Legs.{framed}
-use Rattle.crossing.specs.Crossing.{first-from, first-crossing, asked-crossing, cross-answer, Means}
+use Rattle.crossing.specs.Crossing.{first-from, first-crossing, asked-crossing, cross-refusal, cross-answer, Means, CrossMeans}
 use Rattle.record.specs.Laws.Trail.{from, fixes-from, ends-are, last-is, accepted-checked}
 use Rattle.legs.specs.Laws.Legs.{InLimit, BoxInLimit}
 use Rattle.crossing.specs.Laws.Search.{window-outside, edges-outside}
@@ -54,8 +54,8 @@ module _ (b : List ℕ) (s e : ℕ) (box : Box) where
   own-checks = bad-window ∷ bad-box ∷ []
 
   -- one of checks 1 to 9 turns the bytes away
-  pub cross-refused : (k : ℕ) → read-refusal trail b ≡ some k → cross-answer trail b s e box ≡ turns-away k
-  cross-refused k h = rw (some-first asks (head-checks ++ fix-checks) own-checks k (reading-alone trail b (asked-crossing s e box) ∙ h)) refl
+  pub cross-refused : (k : ℕ) → read-refusal trail b ≡ some k → cross-refusal trail b s e box ≡ some k
+  cross-refused k h = some-first asks (head-checks ++ fix-checks) own-checks k (reading-alone trail b (asked-crossing s e box) ∙ h)
 
   module _ (accepted : IsAccepted trail b) where
     -- an accepted record leaves checks 13 and 14
@@ -79,20 +79,19 @@ module _ (b : List ℕ) (s e : ℕ) (box : Box) where
     unfolding sentence
     box-says = refl
 
-    pub cross-13 : window-outside s e start end ≡ true → cross-answer trail b s e box ≡ turns-away 13
-    cross-13 h = rw (two-left, stops asks bad-window (bad-box ∷ []) (window-says ∙ h)) refl
+    pub cross-13 : window-outside s e start end ≡ true → cross-refusal trail b s e box ≡ some 13
+    cross-13 h = two-left ∙ stops asks bad-window (bad-box ∷ []) (window-says ∙ h)
 
-    pub cross-14 : window-outside s e start end ≡ false → edges-outside box ≡ true → cross-answer trail b s e box ≡ turns-away 14
-    cross-14 h k = rw (two-left, passes asks bad-window (bad-box ∷ []) (window-says ∙ h), stops asks bad-box [] (box-says ∙ k)) refl
+    pub cross-14 : window-outside s e start end ≡ false → edges-outside box ≡ true → cross-refusal trail b s e box ≡ some 14
+    cross-14 h k = two-left ∙ passes asks bad-window (bad-box ∷ []) (window-says ∙ h) ∙ stops asks bad-box [] (box-says ∙ k)
+
+    pub cross-none : window-outside s e start end ≡ false → edges-outside box ≡ false → cross-refusal trail b s e box ≡ none
+    cross-none h k = two-left ∙ passes asks bad-window (bad-box ∷ []) (window-says ∙ h) ∙ passes asks bad-box [] (box-says ∙ k) ∙ first-none asks
 
     -- what the search computes is the definition
-    crossing-is : first-crossing 16000 (fixes trail b) box s e ≡ first-from 16000 start (fix-at trail b 0) (from b 1 (count-field b)) (framed 16000 box) (s - start) (e - start)
+    pub crossing-is : first-crossing 16000 (fixes trail b) box s e ≡ first-from 16000 start (fix-at trail b 0) (from b 1 (count-field b)) (framed 16000 box) (s - start) (e - start)
     unfolding first-crossing
     crossing-is = rw (fixes-from b some-fix) refl
-
-    pub cross-gives : window-outside s e start end ≡ false → edges-outside box ≡ false
-        → cross-answer trail b s e box ≡ gives (first-from 16000 start (fix-at trail b 0) (from b 1 (count-field b)) (framed 16000 box) (s - start) (e - start))
-    cross-gives h k = rw (two-left, passes asks bad-window (bad-box ∷ []) (window-says ∙ h), passes asks bad-box [] (box-says ∙ k), first-none asks, crossing-is) refl
 
     -- and means what the question means
     pub accepted-means : window-outside s e start end ≡ false → edges-outside box ≡ false → Means (fixes trail b) box s e (first-crossing 16000 (fixes trail b) box s e)
@@ -101,24 +100,41 @@ module _ (b : List ℕ) (s e : ℕ) (box : Box) where
         let l : end ≡ (last-of (fix-at trail b 0) (from b 1 (count-field b))) .t = ap (λ (f : Fix). f .t) (sym (last-is b (count-field b))) in
         rw (fixes-from b some-fix) (crossing-means _ _ box s e (accepted-checked b accepted) (box-good box k) (record { from = w .from; order = w .order; to = omega (arith, w .to, l) }))
 
--- ---- THE ANSWER ON LENT BYTES MEANS IT: whatever is given is told or denied of the record's fixes, the window and the box
-pub answer-means : (b : List ℕ) (s e : ℕ) (box : Box) (o : Option Fraction) → cross-answer trail b s e box ≡ gives o → Means (fixes trail b) box s e o
-answer-means b s e box o h = go (refusal trail crossing (asked-of trail b (asked-crossing s e box))) refl h
+-- ---- what a question that none of its checks turns away has: an accepted record, a window of its times, and a box within the limits
+pub record Passed (b : List ℕ) (s e : ℕ) (box : Box) : Type 0 where
+  pub is-accepted : IsAccepted trail b
+  pub window-passed : window-outside s e ((fix-at trail b 0) .t) ((fix-at trail b (count-field b - 1)) .t) ≡ false
+  pub box-passed : edges-outside box ≡ false
+
+pub cross-passed : (b : List ℕ) (s e : ℕ) (box : Box) → cross-refusal trail b s e box ≡ none → Passed b s e box
+cross-passed b s e box n =
+    let front = none-front (asks b s e box) (head-checks ++ fix-checks) (own-checks b s e box) n in
+    let accepted : IsAccepted trail b = record { accepted = sym (reading-alone trail b (asked-crossing s e box)) ∙ front } in
+    let p = own (none-holds (asks b s e box) (own-checks b s e box) (sym (none-first (asks b s e box) (head-checks ++ fix-checks) (own-checks b s e box) front) ∙ n)) in
+    record { is-accepted = accepted; window-passed = sym (window-says b s e box accepted) ∙ p .0; box-passed = sym (box-says b s e box accepted) ∙ p .1 }
   where
-    given-is : {x y : Option Fraction} → gives x ≡ gives y → x ≡ y
-    given-is {x} {y} q = let z : x ≡ y = cc in z
+    own : NoneHolds (asks b s e box) (own-checks b s e box) → (asks b s e box bad-window ≡ false) × (asks b s e box bad-box ≡ false)
+    own (and-not p (and-not q no-check)) = (p, q)
 
-    never-given : {k : ℕ} {x : Option Fraction} → turns-away k ≡ gives x → ⊥
-    never-given q = let z : _≡_ {A = ℕ} 0 1 = cc in omega arith
+-- ---- THE ANSWER ON LENT BYTES MEANS IT
+pub given-means : (b : List ℕ) (s e : ℕ) (box : Box) → cross-refusal trail b s e box ≡ none → Means (fixes trail b) box s e (first-crossing 16000 (fixes trail b) box s e)
+given-means b s e box n = let p = cross-passed b s e box n in accepted-means b s e box (p .is-accepted) (p .window-passed) (p .box-passed)
 
-    own : (c : Check → Bool) → NoneHolds c (bad-window ∷ bad-box ∷ []) → (c bad-window ≡ false) × (c bad-box ≡ false)
-    own c (and-not p (and-not q no-check)) = (p, q)
+pub cross-means : (b : List ℕ) (s e : ℕ) (box : Box) → CrossMeans trail b s e box (cross-answer trail b s e box)
+cross-means b s e box = go (cross-refusal trail b s e box) refl
+  where
+    go : (r : Option ℕ) → cross-refusal trail b s e box ≡ r → CrossMeans trail b s e box (answer r (first-crossing 16000 (fixes trail b) box s e))
+    go none n = given-means b s e box n
+    go (some k) n = first-exactly (asks b s e box) k (checks crossing) .0 n
 
-    go : (r : Option ℕ) → refusal trail crossing (asked-of trail b (asked-crossing s e box)) ≡ r → answer r (first-crossing 16000 (fixes trail b) box s e) ≡ gives o → Means (fixes trail b) box s e o
-    go (some k) n q = absurd (never-given q)
-    go none n q =
-        let says = sentence trail (asked-of trail b (asked-crossing s e box)) in
-        let accepted : IsAccepted trail b = record { accepted = sym (reading-alone trail b (asked-crossing s e box)) ∙ none-front says (head-checks ++ fix-checks) (bad-window ∷ bad-box ∷ []) n } in
-        let rest = sym (none-first says (head-checks ++ fix-checks) (bad-window ∷ bad-box ∷ []) (none-front says (head-checks ++ fix-checks) (bad-window ∷ bad-box ∷ []) n)) ∙ n in
-        let p = own says (none-holds says (bad-window ∷ bad-box ∷ []) rest) in
-        rw (← given-is q) (accepted-means b s e box accepted (sym (window-says b s e box accepted) ∙ p .0) (sym (box-says b s e box accepted) ∙ p .1))
+-- so do the two ways in which the call answers: a refusal, and what is computed where there is none
+pub refused-means : (b : List ℕ) (s e : ℕ) (box : Box) (k : ℕ) → cross-refusal trail b s e box ≡ some k → (turns-away k ≡ cross-answer trail b s e box) × CrossMeans trail b s e box (turns-away k)
+refused-means b s e box k h = (rw h refl, first-exactly (asks b s e box) k (checks crossing) .0 h)
+
+pub asked-means : (b : List ℕ) (s e : ℕ) (box : Box) (a : Answer (Option Fraction)) → a ≡ cross-answer trail b s e box → (a ≡ cross-answer trail b s e box) × CrossMeans trail b s e box a
+asked-means b s e box a h = (h, rw h (cross-means b s e box))
+
+-- where no check turns the question away, the answer is what the search computes
+pub cross-gives : (b : List ℕ) (s e : ℕ) (box : Box) → cross-refusal trail b s e box ≡ none
+    → cross-answer trail b s e box ≡ gives (first-from 16000 ((fix-at trail b 0) .t) (fix-at trail b 0) (from b 1 (count-field b)) (framed 16000 box) (s - (fix-at trail b 0) .t) (e - (fix-at trail b 0) .t))
+cross-gives b s e box n = rw (n, crossing-is b s e box (cross-passed b s e box n .is-accepted)) refl

@@ -16,17 +16,19 @@ use Rattle.distance.specs.Integers.Tests.{Test, holds, fails, test}
 use Rattle.distance.specs.Laws.All.{All, all-none, all-more}
 use Rattle.distance.specs.Laws.Near.{near-self}
 use Rattle.format.specs.Format.{trail, never, mark-field, count-field, length-field, fixes, fix-at}
-use Rattle.record.specs.Checks.{IsAccepted}
+use Rattle.record.specs.Checks.{IsAccepted, read-refusal}
+use Rattle.record.specs.Answers.{Answer, gives, turns-away}
 use Rattle.format.specs.Laws.Each.{length-each}
 use Rattle.record.specs.Laws.First.{some-none}
 use Rattle.format.specs.Laws.RoundTrip.{AreBytes}
 use Rattle.record.specs.Laws.Accepted.{accepted-good}
 use Rattle.thinning.specs.Thinning.{thinned}
-use Rattle.thinning.specs.Aging.{Call, by-tolerance, by-days, left-by, applies, new-mark, record-at, thinned-record}
+use Rattle.thinning.specs.Aging.{Call, by-tolerance, by-days, left-by, answered, applies, new-mark, record-at, thinned-record}
 use Rattle.thinning.specs.Laws.Trail.{again, no-more}
 use Rattle.thinning.specs.Laws.Near.{thinned-near}
+use Rattle.thinning.specs.Laws.Aging.{age-reader, age-refused, days-refused}
 use Rattle.thinning.specs.Laws.Step.{thins, step, applies-low}
-use Rattle.questions.specs.Agings.{run, Book, new-book, greater, fed, fed-all, kept-at, mark-of, counts-as, AskedOf, call-of, calls-of}
+use Rattle.questions.specs.Agings.{run, Book, new-book, greater, fed, fed-all, kept-at, mark-of, counts-as, AskedOf, call-of, calls-of, one-if-refused, refused-calls, run-answer}
 
 -- ---- what the buffer is after some of the calls: b is the original's buffer, c the present one
 pub record State (b c : List ℕ) (E : Option ℕ) : Type 0 where
@@ -214,3 +216,41 @@ run-next b l i h = sym (rw (add-one, take-suc l i 0 h, calls-more (take i l) (ge
 
 pub run-all : (b l : List ℕ) (i : ℕ) → length l ≤ i → run b (calls-of (take i l)) ≡ run b (calls-of l)
 run-all b l i h = rw (take-all i l h) refl
+
+-- ---- what the list answers: a refused record is left as it is by every call ..
+refused-call : (b : List ℕ) (k : ℕ) (c : Call) → read-refusal trail b ≡ some k → left-by b c ≡ b
+refused-call b k (by-tolerance e) h = sym (age-refused b e k (age-reader b e k h) .1)
+refused-call b k (by-days d) h = sym (days-refused b d k h .1)
+
+pub run-refused : (b : List ℕ) (k : ℕ) (calls : List Call) → read-refusal trail b ≡ some k → run b calls ≡ b
+unfolding run
+run-refused b k [] h = refl
+run-refused b k (c ∷ calls) h = ap (λ (l : List ℕ). run l calls) (refused-call b k c h) ∙ run-refused b k calls h
+
+-- .. and so is what the call answers and leaves
+pub refused-run : (b l : List ℕ) (k : ℕ) → read-refusal trail b ≡ some k → (turns-away k ≡ run-answer b (calls-of l)) × (b ≡ run b (calls-of l))
+refused-run b l k h = (rw h refl, sym (run-refused b k (calls-of l) h))
+
+pub made-run : (b l c : List ℕ) (n : ℕ) → read-refusal trail b ≡ none → n ≡ refused-calls b (calls-of l) → c ≡ run b (calls-of l) → (gives n ≡ run-answer b (calls-of l)) × (c ≡ run b (calls-of l))
+made-run b l c n h e f = (rw (h, e) refl, f)
+
+-- .. and the calls that were turned away are counted one after the other
+refused-more : (b : List ℕ) (l : List Call) (c : Call) → refused-calls b (l ++ c ∷ []) ≡ refused-calls b l + one-if-refused (answered (run b l) c)
+unfolding refused-calls run
+refused-more b [] c = omega arith
+refused-more b (d ∷ l) c = omega (arith, refused-more (left-by b d) l c)
+
+pub refused-first : (b l : List ℕ) → 0 ≡ refused-calls b (calls-of (take 0 l))
+unfolding refused-calls calls-of
+refused-first b l = refl
+
+pub refused-next : (b l : List ℕ) (i : ℕ) → i < length l
+    → refused-calls b (calls-of (take i l)) + one-if-refused (answered (run b (calls-of (take i l))) (call-of (getD l i 0))) ≡ refused-calls b (calls-of (take (i + 1) l))
+refused-next b l i h = sym (rw (add-one, take-suc l i 0 h, calls-more (take i l) (getD l i 0)) (refused-more b (calls-of (take i l)) (call-of (getD l i 0))))
+
+pub refused-all : (b l : List ℕ) (i : ℕ) → length l ≤ i → refused-calls b (calls-of (take i l)) ≡ refused-calls b (calls-of l)
+refused-all b l i h = rw (take-all i l h) refl
+
+pub at-most-one : (a : Answer ℕ) → one-if-refused a ≤ 1
+at-most-one (gives n) = omega arith
+at-most-one (turns-away k) = omega arith

@@ -15,8 +15,8 @@ use Rattle.distance.specs.Laws.Box.{told, denied}
 use Rattle.distance.specs.Laws.Place.{place-proper}
 use Rattle.format.specs.Format.{trail, never, mark-field, count-field, fixes, fix-at}
 use Rattle.format.specs.Laws.Each.{length-each}
-use Rattle.record.specs.Checks.{Asked, IsAccepted, bad-window, bad-box, sentence, asked-of, refusal, crossing, of-ends, second-outside}
-use Rattle.record.specs.Answers.{gives, answer}
+use Rattle.record.specs.Checks.{FirstHolds, Asked, IsAccepted, bad-window, bad-box, sentence, asked-of, refusal, crossing, of-ends, second-outside}
+use Rattle.record.specs.Answers.{gives, turns-away, answer}
 use Rattle.record.specs.Laws.First.{first-exactly, NoneHolds, and-not, none-holds}
 use Rattle.format.specs.Laws.RoundTrip.{AreBytes}
 use Rattle.record.specs.Laws.Accepted.{accepted-good, times-good}
@@ -26,9 +26,10 @@ use Rattle.legs.specs.declared.Fraction.{Fraction}
 use Rattle.crossing.specs.Crossing.{Told, Denied, Means, after-first, asked-crossing, cross-answer, first-crossing}
 use Rattle.questions.specs.Agings.{new-book, run, kept-at, counts-as, AskedOf}
 use Rattle.questions.specs.Claim.{CrossingSays, says-refused, says-told, says-denied, book, Claim}
+use Rattle.questions.specs.Laws.Asked.{asked-after}
 use Rattle.questions.specs.Laws.Agings.{agings, kept-near, original-stays}
 use Rattle.crossing.specs.Laws.Crossing.{GoodWindow}
-use Rattle.crossing.specs.Laws.Checking.{window-good, two-left, answer-means}
+use Rattle.crossing.specs.Laws.Checking.{window-good, two-left, given-means}
 
 -- ---- the kept trail begins and ends where the original does
 kept-ends : (E : Option ℕ) (l : List Fix) → SameEnds l (kept-at E l)
@@ -108,8 +109,7 @@ module _ (E : Option ℕ) (l : List Fix) (c : List ℕ) (rises : Rising l) (a : 
       go (some k) h = says-refused (first-exactly (sentence trail q) k (bad-window ∷ bad-box ∷ []) .0 (sym (two-left c s e box a) ∙ h))
       go none h =
           let w = window-false (none-holds (sentence trail q) (bad-window ∷ bad-box ∷ []) (sym (two-left c s e box a) ∙ h)) in
-          let f = first-crossing 16000 m box s e in
-          say w f (answer-means c s e box f (ap (λ (r : Option ℕ). answer r f) h))
+          say w (first-crossing 16000 m box s e) (given-means c s e box h)
 
 -- ---- DEMAND 3
 pub claim : (b : List ℕ) (calls : List Call) → AreBytes b → IsAccepted trail b → mark-field b ≡ never → Claim b calls
@@ -127,5 +127,22 @@ claim b calls bytes a never-thinned =
       rest = s .rest;
       denominators = λ u. (rw o (place-proper u rises), rw (s .exactly) (place-proper u (kept-rises ((book b calls) .E) (fixes trail b) rises)));
       near = λ u t. rw (o, s .exactly) (kept-near ((book b calls) .E) (fixes trail b) u rises (rw o at t));
+      asked-then = λ t e box. asked-after t e box b calls bytes;
       crossings = λ t e box. rw o (crossing-says ((book b calls) .E) (fixes trail b) (run b calls) rises (s .still-accepted) (s .exactly) t e box);
     }
+
+-- ---- WHAT THE CLAIM'S ANSWER GIVES, by matching on all that `CrossingSays` can be: another way to say an answer would leave a case open here
+module _ {E : ℕ} {original : List Fix} {c : List ℕ} {s e : ℕ} {box : Box} where
+  -- told: the time is of the window, no earlier one crosses, and at that time the original is at most E from a place in the box
+  pub told-gives : {f : Fraction} → CrossingSays E original c s e box (gives (some f))
+      → (t : Told (fixes trail c) box s e (f .num) (f .den)) × NearBox E box (place original (after-first (fixes trail c) (f .num) (f .den) (t .some-denominator)))
+  told-gives (says-told t n) = (t, n)
+
+  -- denied: no time of the window crosses, and whenever in the window the original is in the box, it is at most E from one of its sides
+  pub denied-gives : CrossingSays E original c s e box (gives none)
+      → Denied (fixes trail c) box s e × ((u : Time) → From s u → Until e u → In box (place original u) → NearSide E box (place original u))
+  denied-gives (says-denied d n) = (d, n)
+
+  -- refused: the number is that of the first of checks 13 and 14 whose sentence holds
+  pub refused-gives : {k : ℕ} → CrossingSays E original c s e box (turns-away k) → FirstHolds (sentence trail (asked-of trail c (asked-crossing s e box))) k (bad-window ∷ bad-box ∷ [])
+  refused-gives (says-refused h) = h

@@ -1,26 +1,66 @@
+use mathlib.Core.Path.{sym, _∙_, ap}
+use mathlib.Core.List.{List}
+use Prim.Native.Nat.{ℕ}
 use denote.Ref.{now}
 use borrow.Author.Needs.{needs}
-use Rattle.format.specs.Laws.RoundTrip.{are-bytes}
+use Rattle.format.specs.Laws.RoundTrip.{AreBytes, are-bytes}
+use Rattle.record.specs.Answers.{refused}
+use Rattle.crossing.specs.Answers.{boxOf}
 use Rattle.questions.specs.Agings.{calls-of}
+use Rattle.questions.specs.Laws.Asked.{refused-after, not-refused-after, made-after}
 use Rattle.questions.specs.Laws.Claim.{claim}
 use Rattle.questions.proofs.agings.crosses_after.Statement.{statement}
 use Rattle.questions.proofs.agings.crosses_after.Tie as tie
 
-call-all-requires : tie.Need-call-all-requires
-call-all-requires c κs = search needs
+all-bytes : (c : tie.After-slice-known) → AreBytes (now (c .before .args .b))
+all-bytes c = are-bytes (now (c .before .args .b)) (λ i. c .slice-known .given i .fits)
 
-crosses-requires : tie.Need-crosses-requires
-crosses-requires c κs = search needs
+cross-says-requires : tie.Need-cross-says-requires
+cross-says-requires c κs = search needs
+
+enum-known-v : tie.Need-enum-known-v
+enum-known-v c = search needs
+
+enum-told : tie.Need-enum-told
+enum-told c = search needs
+
+call-each-requires : tie.Need-call-each-requires
+call-each-requires c κs = search needs
+
+cross-asked-requires : tie.Need-cross-asked-requires
+cross-asked-requires c κs =
+    let s = c .before .before .before .before .before .before .before .before .before .before .before in
+    not-refused-after _ _ (boxOf (s .args .e)) (now (s .args .b)) _ (calls-of (now (s .args .calls))) (all-bytes (c .before .before .before .before .before .before .before .before .before .before)) (sym (c .before .before .before .before .before .before .before .cross-says .ensures) ∙ ap refused (c .before .before .before .before .before .enum-told .given .1)) (c .before .before .before .call-each .ensures .1)
 
 same-length : tie.Need-same-length
 same-length c = search needs
 
 returns : tie.Need-returns
 returns c =
-    let start = c .before .before .before .before .before .before .before .before in
-    let left = c .before .before .before .before .call-all .ensures in
-    let bytes = c .before .before .before .before .before .before .before .slice-known .given in
-    (left, c .crosses .ensures, λ a m. claim (now (start .args .b)) (calls-of (now (start .args .calls))) (are-bytes (now (start .args .b)) (λ i. bytes i .fits)) a m)
+    let s = c .before .before .before .before .before .before .before in
+    let said = refused-after _ _ (boxOf (s .args .e)) (now (s .args .b)) (calls-of (now (s .args .calls))) _ (sym (c .before .before .before .cross-says .ensures) ∙ ap refused (c .before .v .given .1)) in
+    (said .0, said .1, λ a m. claim (now (s .args .b)) (calls-of (now (s .args .calls))) (all-bytes (c .before .before .before .before .before .before)) a m)
+
+same-length-2 : tie.Need-same-length-2
+same-length-2 c = search needs
+
+returns-2 : tie.Need-returns-2
+returns-2 c =
+    let s = c .before .before .before .before .before .before .before .before .before .before .before .before in
+    let bytes = all-bytes (c .before .before .before .before .before .before .before .before .before .before .before) in
+    let said = made-after _ _ (boxOf (s .args .e)) (now (s .args .b)) _ (calls-of (now (s .args .calls))) _ bytes (sym (c .before .before .before .before .before .before .before .before .cross-says .ensures) ∙ ap refused (c .before .before .before .before .before .before .enum-told .given .1)) (c .before .before .before .before .call-each .ensures .1) (c .cross-asked .ensures) in
+    (said .0, said .1, λ a m. claim (now (s .args .b)) (calls-of (now (s .args .calls))) bytes a m)
 
 pub crosses-after-spec : {M : Type 1} → statement M
-crosses-after-spec = tie.close (tie.spec call-all-requires crosses-requires same-length returns)
+crosses-after-spec =
+    tie.close
+    (tie.spec
+    cross-says-requires
+    enum-known-v
+    enum-told
+    call-each-requires
+    cross-asked-requires
+    same-length
+    returns
+    same-length-2
+    returns-2)
