@@ -9,7 +9,7 @@ use crate::arguments::{Arguments, Command};
 use crate::failure::{Failure, Status};
 use crate::files::{self, Opened};
 use crate::json::Json;
-use crate::output;
+use crate::{output, words};
 
 pub const COMMAND: Command = Command {
     name: "age",
@@ -123,7 +123,7 @@ fn age_all<N: AsRef<OsStr>>(names: &[N], aging: Aging, json: bool) -> Result<Sta
                 unheard = answer(name, &aged, json).err().or(unheard);
                 Status::Done
             }
-            Err(failure) => failure.report(json),
+            Err(failure) => output::report(&failure, json),
         });
     }
     if names.len() > 1 {
@@ -152,9 +152,9 @@ fn answer(name: &OsStr, aged: &Aged, json: bool) -> Result<(), Failure> {
         measured,
     } = *aged;
     if !json {
-        let file = output::shown(&file);
+        let file = words::shown(&file);
         let kept = format!("kept {count} of {before} fixes");
-        let mark = output::mark(mark);
+        let mark = words::mark(mark);
         return output::print(&format!(
             "{file}: {kept}, measured {measured}, mark {mark}\n"
         ));

@@ -6,7 +6,7 @@ use std::str::FromStr;
 use trails::{Area, Moment, Window};
 
 use crate::failure::{Failure, Status};
-use crate::output;
+use crate::words;
 
 /// One of the commands that `trail` has.
 pub struct Command {
@@ -108,7 +108,7 @@ impl Arguments {
         word: &OsStr,
         rest: &mut impl Iterator<Item = &'a OsString>,
     ) -> Result<(), Failure> {
-        let shown = output::harmless(&word.to_string_lossy());
+        let shown = words::harmless(&word.to_string_lossy());
         let mut taken = OPTIONS
             .iter()
             .filter(|(name, _)| command.options.contains(name));

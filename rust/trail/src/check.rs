@@ -5,7 +5,7 @@ use std::ffi::OsStr;
 use crate::arguments::{Arguments, Command};
 use crate::failure::{Failure, Status};
 use crate::json::Json;
-use crate::{files, output};
+use crate::{files, output, words};
 
 pub const COMMAND: Command = Command {
     name: "check",
@@ -32,7 +32,7 @@ fn run(arguments: &Arguments) -> Result<Status, Failure> {
             Ok(()) => {}
             // without a reader the other answers reach nobody either
             Err(Failure::HungUp) => return Err(Failure::HungUp),
-            Err(failure) => worst = worst.max(failure.report(json)),
+            Err(failure) => worst = worst.max(output::report(&failure, json)),
         }
     }
     Ok(worst)
@@ -48,9 +48,9 @@ fn check(name: &OsStr, json: bool) -> Result<(), Failure> {
     let last = fixes.last().map_or(first, |fix| fix.t);
     let count = head.count;
     if !json {
-        let mark = output::mark(head.mark);
+        let mark = words::mark(head.mark);
         let times = format!("seconds {first} to {last}");
-        let file = output::shown(&file);
+        let file = words::shown(&file);
         return output::print(&format!("{file}: fixes {count}, {times}, mark {mark}\n"));
     }
     output::print_json(Json::Object(vec![

@@ -5,7 +5,7 @@ use std::fmt;
 use trails::Refusal;
 
 use crate::json::Json;
-use crate::output::{self, shown};
+use crate::words::shown;
 
 /// How a run ended. Of several files the greatest counts.
 #[derive(Clone, Copy, Debug, PartialEq, Eq, PartialOrd, Ord)]
@@ -70,20 +70,8 @@ impl Failure {
         }
     }
 
-    /// Tells people on standard error and, if they listen, programs on standard output.
-    pub fn report(&self, json: bool) -> Status {
-        if !matches!(self, Failure::HungUp) {
-            output::message(&self.to_string());
-        }
-        let told = match self.answer() {
-            Some(answer) if json => output::print_json(answer),
-            _ => Ok(()),
-        };
-        told.map_or(Status::Failed, |()| self.status())
-    }
-
     /// What programs are told: of wrong usage nothing.
-    fn answer(&self) -> Option<Json> {
+    pub fn answer(&self) -> Option<Json> {
         let failed = |what: &String| vec![("failed", Json::Text(what.clone()))];
         let (spot, what) = match self {
             Failure::Refused(spot, refusal) => (spot.clone(), refusal_fields(*refusal).into()),

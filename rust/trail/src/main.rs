@@ -17,6 +17,7 @@ mod output;
 mod place;
 mod plot;
 mod replay;
+mod words;
 mod write;
 
 use std::ffi::OsString;
@@ -82,7 +83,7 @@ fn run(words: &[OsString]) -> Status {
     let json = words.iter().any(|word| word == "--json");
     match obey(words) {
         Ok(status) => status,
-        Err(failure) => failure.report(json),
+        Err(failure) => output::report(&failure, json),
     }
 }
 
@@ -102,7 +103,7 @@ fn obey(words: &[OsString]) -> Result<Status, Failure> {
         return Ok(Status::Done);
     }
     let Some(command) = COMMANDS.iter().find(|command| name == command.name) else {
-        let name = output::harmless(&name.to_string_lossy());
+        let name = words::harmless(&name.to_string_lossy());
         return Err(Failure::Usage(format!(
             "there is no command '{name}'; try 'trail --help'"
         )));

@@ -2,7 +2,7 @@
 
 use std::io::{self, ErrorKind, Write};
 
-use crate::failure::Failure;
+use crate::failure::{Failure, Status};
 use crate::json::Json;
 
 /// Prints bytes, all of them or with a failure.
@@ -29,24 +29,14 @@ pub fn message(text: &str) {
     let _ = writeln!(io::stderr(), "{text}");
 }
 
-/// A word as people read it: on one line, and with nothing that a terminal obeys.
-pub fn harmless(word: &str) -> String {
-    let harmless = |c: char| match c {
-        c if c.is_control() => c.escape_default().to_string(),
-        c => c.to_string(),
-    };
-    word.chars().map(harmless).collect()
-}
-
-/// The name of a file that is read, as people read it.
-pub fn shown(file: &str) -> String {
-    match file {
-        "-" => "standard input".into(),
-        file => harmless(file),
+/// Tells people of a failure on standard error and, if they listen, programs on standard output.
+pub fn report(failure: &Failure, json: bool) -> Status {
+    if !matches!(failure, Failure::HungUp) {
+        message(&failure.to_string());
     }
-}
-
-/// A mark as people read it.
-pub fn mark(mark: Option<u16>) -> String {
-    mark.map_or("never".into(), |mark| mark.to_string())
+    let told = match failure.answer() {
+        Some(answer) if json => print_json(answer),
+        _ => Ok(()),
+    };
+    told.map_or(Status::Failed, |()| failure.status())
 }

@@ -12,7 +12,7 @@ use trails::{Area, Crossing, Fix, Refusal, Window};
 
 use crate::arguments::{Arguments, Command};
 use crate::failure::{Failure, Status};
-use crate::{files, output};
+use crate::{files, words};
 use picture::Picture;
 
 pub const COMMAND: Command = Command {
@@ -90,7 +90,7 @@ impl Drawn {
 /// The file's name without its folders, as far as a line has room for it.
 fn title(name: &OsStr) -> String {
     let name = Path::new(name).file_name().unwrap_or(name);
-    let shown = output::shown(&name.to_string_lossy());
+    let shown = words::shown(&name.to_string_lossy());
     shown.chars().take(80).collect()
 }
 
