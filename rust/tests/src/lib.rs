@@ -11,5 +11,6 @@ pub mod compare;
 pub mod expected;
 pub mod interface;
 pub mod plain;
+pub mod programs;
 pub mod questions;
 pub mod shapes;

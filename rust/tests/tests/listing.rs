@@ -1,49 +1,14 @@
 //! The listing program, run on whole inputs and in small pieces.
-//!
-//! It runs `target/bin/listing`, which `rt check` builds, or the program that TRAILS_LISTING names.
 #![forbid(unsafe_code)]
-
-use std::io::{ErrorKind, Write};
-use std::process::{ChildStdin, Command, Stdio};
 
 use trails_tests::cases::{Cases, Draft, Random, Settings};
 use trails_tests::interface::{self, LONGEST_TEXT};
 use trails_tests::plain::{self, Fix, LONGEST, MOST_FIXES};
-
-fn program() -> String {
-    let built = concat!(env!("CARGO_MANIFEST_DIR"), "/../../target/bin/listing");
-    std::env::var("TRAILS_LISTING").unwrap_or_else(|_| built.to_string())
-}
-
-/// Sends the input in pieces. A program that has read all it wants may hang up before the end.
-fn send(mut to: ChildStdin, input: &[u8], piece: usize) {
-    for part in input.chunks(piece) {
-        match to.write_all(part).and_then(|()| to.flush()) {
-            Err(error) if error.kind() == ErrorKind::BrokenPipe => return,
-            other => other.expect("the program takes its input"),
-        }
-    }
-}
-
-fn list(input: &[u8], piece: usize) -> Vec<u8> {
-    let name = program();
-    let mut child = Command::new(&name)
-        .stdin(Stdio::piped())
-        .stdout(Stdio::piped())
-        .spawn()
-        .unwrap_or_else(|error| panic!("{name}: {error}; `rt check` builds it"));
-    let to = child.stdin.take().expect("its input is a pipe");
-    // the program may print before it has read everything, so both ends are served at once
-    std::thread::scope(|scope| {
-        scope.spawn(|| send(to, input, piece));
-        let output = child.wait_with_output().expect("the program ends");
-        assert!(output.status.success(), "{name}: {}", output.status);
-        output.stdout
-    })
-}
+use trails_tests::programs::{printed, proved};
 
 fn lists_as(input: &[u8], piece: usize, text: &str, what: &str) {
-    let listed = String::from_utf8_lossy(&list(input, piece)).into_owned();
+    let printed = printed(&proved("listing"), input, piece);
+    let listed = String::from_utf8_lossy(&printed);
     assert!(
         listed == text,
         "{what}, in pieces of {piece}:\n{listed}instead of\n{text}"
