@@ -3,7 +3,7 @@
 use std::hint::black_box;
 
 use trails_tests::interface;
-use trails_tests::plain::{encode, read, Fix, Head, NEVER};
+use trails_tests::plain::{read, record, Fix, NEVER};
 
 use crate::thinning;
 use crate::timing::{repeated, Run};
@@ -13,10 +13,6 @@ use crate::trails::Kind;
 /// and no more than measure so many fixes, for the dearest trail takes long enough alone.
 const COPIES: usize = 16;
 const MEASURED: u32 = 500_000;
-
-pub fn record(fixes: &[Fix]) -> Vec<u8> {
-    encode(Head::of(NEVER, fixes.len()), fixes)
-}
 
 pub struct Aging {
     fixes: Vec<Fix>,
@@ -32,14 +28,14 @@ impl Aging {
             name, tolerance, ..
         } = *kind;
         let fixes = (kind.fixes)(n);
-        let mut aged = record(&fixes);
+        let mut aged = record(NEVER, &fixes);
         let answer = interface::age(&mut aged, tolerance);
         let thinned = thinning::thin(&fixes, tolerance);
         let same = (answer.refusal, answer.value) == (0, thinned.count)
             && read(&aged).map(|trail| trail.fixes) == Ok(thinned.kept);
         assert!(same, "{name}, {n} fixes: the two thinnings differ");
         Aging {
-            record: record(&fixes),
+            record: record(NEVER, &fixes),
             fixes,
             tolerance,
             copies: COPIES.min(1 + (MEASURED / (1 + answer.value)) as usize),

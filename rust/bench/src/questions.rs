@@ -8,10 +8,9 @@ use std::hint::black_box;
 use trails_tests::cases::Random;
 use trails_tests::interface;
 use trails_tests::plain::crossing::{Area, Question, Window};
-use trails_tests::plain::{Fix, MOST_FIXES};
+use trails_tests::plain::{record, Fix, MOST_FIXES, NEVER};
 use trails_tests::questions::Moment;
 
-use crate::aging::record;
 use crate::layout::{heading, microseconds, row, whole};
 use crate::timing::{by_turns, repeated, Run};
 use crate::trails::{typical, SEED};
@@ -68,7 +67,7 @@ impl Inquiry {
         let mut random = Random::new(SEED);
         Inquiry {
             fixes: n,
-            record: record(&fixes),
+            record: record(NEVER, &fixes),
             moments: (0..DRAWN).map(|_| moment(&fixes, &mut random)).collect(),
             crossings: (0..DRAWN).map(|_| crossing(&fixes, &mut random)).collect(),
         }

@@ -8,10 +8,9 @@ use std::process::{Command, ExitCode, Stdio};
 use std::thread;
 
 use trails_tests::interface;
-use trails_tests::plain::{Fix, MOST_FIXES};
+use trails_tests::plain::{record, Fix, MOST_FIXES, NEVER};
 use trails_tests::shapes::dearest;
 
-use crate::aging::record;
 use crate::layout::{heading, row, whole};
 
 /// A system rounds a stack up to whole pages, so in bytes between them nothing would be learned.
@@ -46,7 +45,7 @@ pub fn age_within(direction: &str, bytes: &str) -> ExitCode {
     let Ok(bytes) = bytes.parse() else {
         return ExitCode::FAILURE;
     };
-    let mut record = record(&trail(direction));
+    let mut record = record(NEVER, &trail(direction));
     let thread = thread::Builder::new().stack_size(bytes);
     let aging = thread.spawn(move || interface::age(&mut record, 1));
     match aging.map(|aging| aging.join()) {

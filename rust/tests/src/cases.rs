@@ -227,6 +227,11 @@ impl Draft {
     }
 }
 
+/// A buffer that begins with the record of these fixes, marked never, and goes on.
+pub fn buffer(fixes: &[Fix]) -> Vec<u8> {
+    Draft::new(fixes.to_vec(), NEVER, vec![0xAB; 5]).bytes()
+}
+
 /// Lent bytes, and what they must be refused for if that is known beforehand: 0 is accepted.
 pub struct Case {
     pub name: String,

@@ -29,6 +29,13 @@ pub struct Fix {
     pub y: i16,
 }
 
+/// Time, x and y, as trails are written by hand.
+impl From<(u32, i16, i16)> for Fix {
+    fn from((t, x, y): (u32, i16, i16)) -> Fix {
+        Fix { t, x, y }
+    }
+}
+
 /// An accepted record.
 #[derive(Debug, PartialEq, Eq)]
 pub struct Trail {
@@ -103,6 +110,11 @@ pub fn encode(head: Head, fixes: &[Fix]) -> Vec<u8> {
     bytes
 }
 
+/// The record of a list of fixes.
+pub fn record(mark: u16, fixes: &[Fix]) -> Vec<u8> {
+    encode(Head::of(mark, fixes.len()), fixes)
+}
+
 fn refuse_if(number: u8, sentence: bool) -> Result<(), u8> {
     if sentence {
         Err(number)
@@ -159,8 +171,7 @@ pub fn write(fixes: &[Fix], output: &mut [u8]) -> Result<usize, u8> {
     refuse_if(3, bad_count(fixes.len()))?;
     check_fixes(fixes)?;
     refuse_if(15, output.len() < length)?;
-    let head = Head::of(NEVER, fixes.len());
-    output[..length].copy_from_slice(&encode(head, fixes));
+    output[..length].copy_from_slice(&record(NEVER, fixes));
     Ok(length)
 }
 

@@ -1,21 +1,13 @@
 //! The crossing question: yes with the earliest time, no with nothing, and each refusal.
 #![forbid(unsafe_code)]
 
-use trails_tests::cases::{Draft, Random, Settings, Tally};
+use trails_tests::cases::{buffer, Random, Settings, Tally};
 use trails_tests::interface::Crossing;
 use trails_tests::plain::crossing::{Area, Question, Window};
 use trails_tests::plain::place::Time;
-use trails_tests::plain::{Fix, MOST_FIXES, NEVER};
+use trails_tests::plain::{Fix, MOST_FIXES};
 use trails_tests::questions::{crosses, refused_in_order, told, Asked as _};
 use trails_tests::shapes::{trail, SHAPES};
-
-fn record(fixes: &[Fix]) -> Vec<u8> {
-    Draft::new(fixes.to_vec(), NEVER, vec![0xAB; 5]).bytes()
-}
-
-fn fix(&(t, x, y): &(u32, i16, i16)) -> Fix {
-    Fix { t, x, y }
-}
 
 // ---- by hand
 
@@ -29,14 +21,14 @@ type Asked = ((u32, u32), (i32, i32), (i32, i32), Option<(u32, u32)>);
 
 impl Row {
     fn holds(&self) {
-        let fixes: Vec<Fix> = self.fixes.iter().map(fix).collect();
+        let fixes: Vec<Fix> = self.fixes.iter().copied().map(Fix::from).collect();
         for &((start, end), x, y, time) in self.asked {
             let question = Question {
                 window: Window { start, end },
                 area: Area::new(x, y),
             };
             let name = format!("{fixes:?}, {question:?}");
-            let answer = crosses(&record(&fixes), &question, &name);
+            let answer = crosses(&buffer(&fixes), &question, &name);
             assert_eq!(
                 (answer.refusal, answer.crosses == 1),
                 (0, time.is_some()),
@@ -239,7 +231,7 @@ fn trails_of_every_shape_are_answered_as_the_plain_version_does() {
         let shape = SHAPES[k % SHAPES.len()];
         let n = random.between(1, if k.is_multiple_of(20) { 400 } else { 12 });
         let fixes = trail(shape, n as usize, &mut random);
-        let bytes = record(&fixes);
+        let bytes = buffer(&fixes);
         let name = format!("seed {}: {shape:?}, {n} fixes", settings.seed);
         for _ in 0..10 {
             let question = Question::good(&fixes, &mut random);
@@ -257,7 +249,7 @@ fn the_longest_trails_are_answered_as_the_plain_version_does() {
     let mut kinds = Kinds::default();
     for shape in SHAPES {
         let fixes = trail(shape, MOST_FIXES, &mut random);
-        let bytes = record(&fixes);
+        let bytes = buffer(&fixes);
         let name = format!("{shape:?}, the longest");
         for _ in 0..100 {
             let question = Question::good(&fixes, &mut random);
@@ -277,8 +269,8 @@ fn every_small_box_and_window() {
     for _ in 0..settings.cases / 200 {
         let mut coordinate = || random.between(-2, 2) as i16;
         let mut small = |t| (t, coordinate(), coordinate());
-        let fixes = [small(0), small(1), small(3)].map(|row| fix(&row));
-        let bytes = record(&fixes);
+        let fixes = [small(0), small(1), small(3)].map(Fix::from);
+        let bytes = buffer(&fixes);
         for x in ranges(-2, 2) {
             for y in ranges(-2, 2) {
                 for (start, end) in ranges(0, 3) {

@@ -1,19 +1,11 @@
 //! The place question: the fraction as document 01 has it, the rounded place beside it, and each refusal.
 #![forbid(unsafe_code)]
 
-use trails_tests::cases::{Draft, Random, Settings, Tally};
+use trails_tests::cases::{buffer, Random, Settings, Tally};
 use trails_tests::interface::Place;
-use trails_tests::plain::{Fix, MOST_FIXES, NEVER};
+use trails_tests::plain::{Fix, MOST_FIXES};
 use trails_tests::questions::{place, refused_in_order, Asked as _, Moment};
 use trails_tests::shapes::{trail, SHAPES};
-
-fn record(fixes: &[Fix]) -> Vec<u8> {
-    Draft::new(fixes.to_vec(), NEVER, vec![0xAB; 5]).bytes()
-}
-
-fn fix((t, x, y): (u32, i16, i16)) -> Fix {
-    Fix { t, x, y }
-}
 
 /// The rounded number is the nearest one to n/d, and of two that are as near the upper.
 fn is_nearest(whole: i32, n: i64, d: u32, name: &str) {
@@ -92,14 +84,14 @@ const ROWS: [Row; 14] = [
 #[test]
 fn trails_worked_by_hand() {
     for row in &ROWS {
-        let fixes: Vec<Fix> = row.fixes.iter().copied().map(fix).collect();
+        let fixes: Vec<Fix> = row.fixes.iter().copied().map(Fix::from).collect();
         let (second, thousandths) = row.moment;
         let moment = Moment {
             second,
             thousandths,
         };
         let name = format!("{fixes:?}");
-        let answer = place(&record(&fixes), moment, &name);
+        let answer = place(&buffer(&fixes), moment, &name);
         let fraction = (answer.x, answer.y, answer.denominator);
         assert_eq!(fraction, row.fraction, "{name}, {moment:?}");
         let whole = (answer.whole_x, answer.whole_y);
@@ -115,7 +107,7 @@ fn trails_of_every_shape_are_answered_as_the_plain_version_does() {
         let shape = SHAPES[k % SHAPES.len()];
         let n = random.between(1, if k.is_multiple_of(20) { 400 } else { 12 });
         let fixes = trail(shape, n as usize, &mut random);
-        let bytes = record(&fixes);
+        let bytes = buffer(&fixes);
         let name = format!("seed {}: {shape:?}, {n} fixes", settings.seed);
         for _ in 0..10 {
             let moment = Moment::good(&fixes, &mut random);
@@ -130,7 +122,7 @@ fn every_fix_of_the_longest_trails_is_at_its_own_place() {
     let mut random = Random::new(Settings::get().seed);
     for shape in SHAPES {
         let fixes = trail(shape, MOST_FIXES, &mut random);
-        let bytes = record(&fixes);
+        let bytes = buffer(&fixes);
         // every one would be slow, and these reach all parts of the record
         for fix in fixes.iter().step_by(13).chain(fixes.last()) {
             let moment = Moment {
@@ -149,8 +141,8 @@ fn every_fix_of_the_longest_trails_is_at_its_own_place() {
 fn halves_go_upward() {
     for d in 1..=12 {
         for x in -12..=12 {
-            let fixes = [fix((7, 0, 1)), fix((7 + d, x, 1 - x))];
-            let bytes = record(&fixes);
+            let fixes = [(7, 0, 1), (7 + d, x, 1 - x)].map(Fix::from);
+            let bytes = buffer(&fixes);
             for half in 0..=2 * d {
                 let moment = Moment {
                     second: 7 + half / 2,

@@ -1,6 +1,6 @@
 //! A plain version of thinning and of aging.
 
-use super::{encode, read, refuse_if, Fix, Head, Trail, NEVER};
+use super::{read, record, refuse_if, Fix, Trail, NEVER};
 
 /// What a thinning keeps, and the count: one for each inner fix measured in each span examined.
 #[derive(Debug, PartialEq, Eq)]
@@ -82,7 +82,7 @@ fn rewrite(lent: &mut [u8], trail: &Trail, e: u16) -> u32 {
         NEVER => e,
         mark => mark.max(e),
     };
-    let bytes = encode(Head::of(mark, thinned.kept.len()), &thinned.kept);
+    let bytes = record(mark, &thinned.kept);
     lent[..bytes.len()].copy_from_slice(&bytes);
     thinned.count
 }

@@ -6,7 +6,7 @@ use std::path::{Path, PathBuf};
 use std::process::{Command, Output, Stdio};
 use std::sync::atomic::{AtomicUsize, Ordering};
 
-use trails_tests::plain::{encode, Fix, Head, NEVER};
+use trails_tests::plain::{self, Fix, NEVER};
 
 pub const PROGRAM: &str = env!("CARGO_BIN_EXE_trail");
 
@@ -130,9 +130,8 @@ impl Folder {
 
 /// The record of some fixes, marked never thinned.
 pub fn record(fixes: &[(u32, i16, i16)]) -> Vec<u8> {
-    let fix = |&(t, x, y): &(u32, i16, i16)| Fix { t, x, y };
-    let fixes: Vec<Fix> = fixes.iter().map(fix).collect();
-    encode(Head::of(NEVER, fixes.len()), &fixes)
+    let fixes: Vec<Fix> = fixes.iter().copied().map(Fix::from).collect();
+    plain::record(NEVER, &fixes)
 }
 
 /// Document 01's trail h.

@@ -1,6 +1,6 @@
 //! `plot`: what a picture has, and what is refused.
 
-use trails_tests::plain::{encode, Head, NEVER};
+use trails_tests::plain::{self, NEVER};
 use trails_tests::shapes::curve;
 
 use crate::folder::{record, trail_h, trail_h_at_12, Folder};
@@ -93,7 +93,7 @@ fn small_and_great_trails_are_drawn() {
     assert_eq!(count(&picture, "fix"), 3 + 1);
     assert_eq!(count(&picture, "first"), 3 + 1);
     let fixes = curve(4_096);
-    folder.put("long", encode(Head::of(NEVER, fixes.len()), &fixes));
+    folder.put("long", plain::record(NEVER, &fixes));
     assert_eq!(count(&draw(&folder, "long"), "fix"), 3 * 4_096 + 1);
     let picture = draw(&folder, "one --original long");
     assert_eq!(count(&picture, "original"), 3 + 1);

@@ -6,7 +6,7 @@ use std::os::unix::process::CommandExt;
 use std::process::{Command, Stdio};
 use std::time::Duration;
 
-use trails_tests::plain::{encode, Head, NEVER};
+use trails_tests::plain::{self, NEVER};
 use trails_tests::shapes::dearest;
 
 use crate::folder::{trail_h, trail_h_at_12, Folder, Ran, PROGRAM};
@@ -241,7 +241,7 @@ fn people_at_a_terminal_see_how_far_the_work_is() {
 fn the_deepest_trail_is_aged_under_a_small_stack_limit() {
     let folder = Folder::new();
     let fixes = dearest(4_096);
-    folder.put("t", encode(Head::of(NEVER, fixes.len()), &fixes));
+    folder.put("t", plain::record(NEVER, &fixes));
     let words = ["age", "--tolerance", "1", "t"];
     let ran = folder.run_in_shell("ulimit -s 256; exec \"$@\"", &words);
     ran.says("t: kept 4096 of 4096 fixes, measured 8382465, mark 1\n");
