@@ -3,16 +3,9 @@
 use crate::cases::{Draft, Random};
 use crate::expected;
 use crate::interface::{self, Answer};
+use crate::plain::lists::Call;
 use crate::plain::place::{Place, Time, FINEST};
-use crate::plain::thinning::{thin, tolerance_of};
 use crate::plain::{read, record_length, Fix, Trail, NEVER};
-
-/// A call of aging, with its argument.
-#[derive(Clone, Copy, Debug)]
-pub enum Call {
-    Tolerance(u16),
-    Days(u16),
-}
 
 impl Call {
     /// Any call: small tolerances and the limits are likelier than others, and some are refused.
@@ -44,33 +37,10 @@ impl Call {
         }
     }
 
-    /// The call that a number of a list is.
-    pub fn of(number: u32) -> Call {
-        match u16::try_from(number) {
-            Ok(e) => Call::Tolerance(e),
-            Err(_) => Call::Days((number % 65_536) as u16),
-        }
-    }
-
     fn proved(self, buffer: &mut [u8]) -> Answer {
         match self {
             Call::Tolerance(e) => interface::age(buffer, e),
             Call::Days(days) => interface::age_by_days(buffer, days),
-        }
-    }
-
-    pub fn plain(self, buffer: &mut [u8]) -> Answer {
-        match self {
-            Call::Tolerance(e) => expected::age(buffer, e),
-            Call::Days(days) => expected::age_by_days(buffer, days),
-        }
-    }
-
-    /// The tolerance that it applies to an accepted record: none if it is refused, or if its days give none.
-    pub fn applies(self) -> Option<u16> {
-        match self {
-            Call::Tolerance(e) => (e <= 32_000).then_some(e),
-            Call::Days(days) => tolerance_of(days),
         }
     }
 }
@@ -79,40 +49,6 @@ impl Call {
 pub fn some_calls(random: &mut Random) -> Vec<Call> {
     let many = random.between(0, 8);
     (0..many).map(|_| Call::any(random)).collect()
-}
-
-/// The plain book: the original's fixes, and E, at first none. It is fed the calls and sees no record.
-pub struct Book {
-    fixes: Vec<Fix>,
-    pub e: Option<u16>,
-}
-
-impl Book {
-    pub fn of(fixes: &[Fix]) -> Book {
-        Book {
-            fixes: fixes.to_vec(),
-            e: None,
-        }
-    }
-
-    pub fn feed(&mut self, call: Call) {
-        // none is less than any tolerance
-        self.e = self.e.max(call.applies());
-    }
-
-    /// What is left after the calls.
-    pub fn expected(&self) -> Trail {
-        match self.e {
-            None => Trail {
-                mark: NEVER,
-                fixes: self.fixes.clone(),
-            },
-            Some(e) => Trail {
-                mark: e,
-                fixes: thin(&self.fixes, e).kept,
-            },
-        }
-    }
 }
 
 /// A lent buffer, and what to call it if a call on it goes wrong.
@@ -146,7 +82,7 @@ impl Buffer {
     pub fn age(&mut self, call: Call) -> Answer {
         let before = self.bytes.clone();
         let mut plain = before.clone();
-        let expected = call.plain(&mut plain);
+        let expected = expected::aging(&mut plain, call);
         let answer = call.proved(&mut self.bytes);
         let name = format!("{}, {call:?}", self.name);
         assert_eq!(answer, expected, "{name}");

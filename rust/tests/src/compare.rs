@@ -5,30 +5,15 @@ pub mod draw;
 pub mod minimise;
 pub mod table;
 
-use crate::agings::Call;
 use crate::cases::{Random, Settings};
+use crate::columns::Columns;
 use crate::expected;
-use crate::interface::{self, Answer, Crossing, Head, Place, Step, LONGEST_TEXT};
+use crate::interface::{self, Answer, Crossing, Head, Place, Run, Step, LONGEST_TEXT};
+use crate::plain;
 use crate::plain::crossing::{self, Question};
+use crate::plain::lists::{self, Call};
 use crate::plain::place::Time;
-use crate::plain::{self, Fix};
 use crate::questions::Moment;
-
-/// The writer's three columns, which need not be of one length.
-#[derive(Clone, Debug, PartialEq, Eq)]
-pub struct Columns {
-    pub t: Vec<u32>,
-    pub x: Vec<i16>,
-    pub y: Vec<i16>,
-}
-
-impl Columns {
-    /// "the list is as long as the shortest of the three columns"
-    fn fixes(&self) -> Vec<Fix> {
-        let all = self.t.iter().zip(&self.x).zip(&self.y);
-        all.map(|((&t, &x), &y)| Fix { t, x, y }).collect()
-    }
-}
 
 /// An operation of the interface, with all that it is given besides the buffer.
 #[derive(Clone, Debug, PartialEq, Eq)]
@@ -36,6 +21,8 @@ pub enum Operation {
     Check,
     /// the positions to read one after the other
     Read(Vec<usize>),
+    /// the columns to fill, with what is in them beforehand
+    ReadAll(Columns),
     /// the buffer is the output
     Write(Columns),
     List,
@@ -60,21 +47,23 @@ pub enum Reply {
     Steps(Vec<Step>),
     Answer(Answer),
     Length(usize),
-    Done,
+    Run(Run),
     Place(Place),
     Crossing(Crossed),
 }
 
 impl Reply {
-    /// The refusal that it tells, 0 for none, if it is one that tells refusals.
+    /// The refusal that it tells, 0 for none. The listing tells it in its text.
     fn refusal(&self) -> Option<u32> {
         match self {
             Reply::Head(head) => Some(head.refusal),
+            Reply::Steps(steps) => steps.first().map(|step| step.refusal),
             Reply::Answer(answer) => Some(answer.refusal),
             Reply::Place(place) => Some(place.refusal),
             Reply::Crossing(Crossed::Refused(number)) => Some(*number),
             Reply::Crossing(_) => Some(0),
-            Reply::Steps(_) | Reply::Length(_) | Reply::Done => None,
+            Reply::Run(run) => Some(run.refusal),
+            Reply::Length(_) => None,
         }
     }
 }
@@ -152,12 +141,13 @@ pub fn proved(case: &Case) -> Outcome {
     let mut after = case.clone();
     let mut text = Vec::new();
     let buffer = &mut after.buffer;
-    let reply = match &after.operation {
+    let reply = match &mut after.operation {
         Operation::Check => Reply::Head(interface::check(buffer)),
         Operation::Read(positions) => {
             let step = |&position: &usize| interface::read(buffer, position);
             Reply::Steps(positions.iter().map(step).collect())
         }
+        Operation::ReadAll(columns) => Reply::Answer(interface::read_all(buffer, columns)),
         Operation::Write(Columns { t, x, y }) => Reply::Answer(interface::write(t, x, y, buffer)),
         Operation::List => {
             let mut output = blank();
@@ -167,10 +157,7 @@ pub fn proved(case: &Case) -> Outcome {
         }
         Operation::Age(e) => Reply::Answer(interface::age(buffer, *e)),
         Operation::Days(days) => Reply::Answer(interface::age_by_days(buffer, *days)),
-        Operation::Run(calls) => {
-            interface::run(buffer, calls);
-            Reply::Done
-        }
+        Operation::Run(calls) => Reply::Run(interface::run(buffer, calls)),
         Operation::Place(Moment {
             second,
             thousandths,
@@ -190,12 +177,13 @@ pub fn plain(case: &Case) -> Outcome {
     let mut after = case.clone();
     let mut text = Vec::new();
     let buffer = &mut after.buffer;
-    let reply = match &after.operation {
+    let reply = match &mut after.operation {
         Operation::Check => Reply::Head(expected::check(buffer)),
         Operation::Read(positions) => {
             let step = |&position: &usize| expected::read(buffer, position);
             Reply::Steps(positions.iter().map(step).collect())
         }
+        Operation::ReadAll(columns) => Reply::Answer(expected::read_all(buffer, columns)),
         Operation::Write(columns) => Reply::Answer(expected::write(&columns.fixes(), buffer)),
         Operation::List => {
             let listing = plain::listing(buffer).into_bytes();
@@ -203,28 +191,19 @@ pub fn plain(case: &Case) -> Outcome {
             text[..listing.len()].copy_from_slice(&listing);
             Reply::Length(listing.len())
         }
-        Operation::Age(e) => Reply::Answer(expected::age(buffer, *e)),
-        Operation::Days(days) => Reply::Answer(expected::age_by_days(buffer, *days)),
-        Operation::Run(calls) => {
-            plain_run(buffer, calls);
-            Reply::Done
-        }
+        Operation::Age(e) => Reply::Answer(expected::aging(buffer, Call::Tolerance(*e))),
+        Operation::Days(days) => Reply::Answer(expected::aging(buffer, Call::Days(*days))),
+        Operation::Run(calls) => Reply::Run(expected::run(buffer, calls)),
         Operation::Place(asked) => {
             Reply::Place(expected::place(buffer, asked.second, asked.thousandths))
         }
         Operation::Crosses(question) => Reply::Crossing(crossing::crosses(buffer, question).into()),
         Operation::CrossesAfter(calls, question) => {
-            plain_run(buffer, calls);
-            Reply::Crossing(crossing::crosses(buffer, question).into())
+            let calls = Call::all_of(calls);
+            Reply::Crossing(lists::crosses_after(buffer, &calls, question).into())
         }
     };
     Outcome { reply, after, text }
-}
-
-fn plain_run(buffer: &mut [u8], calls: &[u32]) {
-    for &number in calls {
-        Call::of(number).plain(buffer);
-    }
 }
 
 /// The two that are compared. Both are given, so that a test can put a faulty one in place of either.

@@ -1,9 +1,10 @@
 //! What the plain version answers to each function of the interface, put as the interface puts it.
 
-use crate::interface::{Answer, Head, Place, Step};
+use crate::columns::Columns;
+use crate::interface::{Answer, Head, Place, Run, Step};
+use crate::plain::lists::Call;
 use crate::plain::moment::Whereabouts;
-use crate::plain::thinning;
-use crate::plain::{self, moment, Fix};
+use crate::plain::{self, lists, moment, Fix};
 
 /// A refusal's number, 0 for none, and beside it what is answered where there is none, or nothing.
 fn told<T: Default>(result: Result<T, u8>) -> (u32, T) {
@@ -29,28 +30,32 @@ pub fn check(lent: &[u8]) -> Head {
 }
 
 pub fn read(lent: &[u8], position: usize) -> Step {
-    let found = match plain::read(lent) {
-        Ok(trail) => trail.fixes.get(position).copied(),
-        Err(_) => plain::standing(lent, position),
-    };
-    found.map_or(Step::default(), |Fix { t, x, y }| Step {
+    let trail = plain::read(lent);
+    let (refusal, found) = told(trail.map(|trail| trail.fixes.get(position).copied()));
+    let step = found.map_or(Step::default(), |Fix { t, x, y }| Step {
+        refusal: 0,
         found: 1,
         t,
         x: x.into(),
         y: y.into(),
-    })
+    });
+    Step { refusal, ..step }
+}
+
+pub fn read_all(lent: &[u8], columns: &mut Columns) -> Answer {
+    let filled = |trail: plain::Trail| {
+        columns.fill(&trail.fixes);
+        trail.fixes.len() as u32
+    };
+    answer(plain::read(lent).map(filled))
 }
 
 pub fn write(list: &[Fix], output: &mut [u8]) -> Answer {
     answer(plain::write(list, output).map(|length| length as u32))
 }
 
-pub fn age(lent: &mut [u8], e: u16) -> Answer {
-    answer(thinning::age(lent, e))
-}
-
-pub fn age_by_days(lent: &mut [u8], days: u16) -> Answer {
-    answer(thinning::age_by_days(lent, days))
+pub fn aging(lent: &mut [u8], call: Call) -> Answer {
+    answer(call.make(lent))
 }
 
 pub fn place(lent: &[u8], second: u32, thousandths: u16) -> Place {
@@ -65,4 +70,12 @@ pub fn place(lent: &[u8], second: u32, thousandths: u16) -> Place {
     };
     let (refusal, place) = told(moment::place(lent, second, thousandths).map(found));
     Place { refusal, ..place }
+}
+
+pub fn run(lent: &mut [u8], calls: &[u32]) -> Run {
+    let (refusal, turned_away) = told(lists::run(lent, &Call::all_of(calls)));
+    Run {
+        refusal,
+        turned_away,
+    }
 }

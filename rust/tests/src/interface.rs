@@ -1,11 +1,16 @@
-//! The functions of `include/trails.h`, as the package `trails` offers them, with this package's questions.
+//! The functions of `include/trails.h`, as the package `trails` offers them, with this package's columns and questions.
 
 use trails::interface as offered;
 
 pub use offered::{age, age_by_days, check, list, place, read, run, write};
-pub use offered::{Answer, Crossing, Head, Place, Step, LONGEST_TEXT};
+pub use offered::{Answer, Crossing, Head, Place, Run, Step, LONGEST_TEXT};
 
+use crate::columns::Columns;
 use crate::plain::crossing::Question;
+
+pub fn read_all(record: &[u8], columns: &mut Columns) -> Answer {
+    offered::read_all(record, &mut columns.t, &mut columns.x, &mut columns.y)
+}
 
 /// A question as it is lent to the interface.
 fn asked(question: &Question) -> offered::Question {

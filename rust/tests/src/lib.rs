@@ -7,6 +7,7 @@
 
 pub mod agings;
 pub mod cases;
+pub mod columns;
 pub mod compare;
 pub mod expected;
 pub mod interface;

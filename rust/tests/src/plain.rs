@@ -1,10 +1,12 @@
 //! A plain version of document 01: the trail record with its checks, reader, writer and listing here, thinning and
-//! aging in `thinning`, places at fractional times in `place`, and the two questions in `moment` and `crossing`.
+//! aging in `thinning`, lists of agings in `lists`, places at fractional times in `place`, and the two questions in
+//! `moment` and `crossing`.
 //!
 //! It follows document 01's sentences one by one. It takes nothing from the proved code, so that a misreading there
 //! would show as a difference here.
 
 pub mod crossing;
+pub mod lists;
 pub mod moment;
 pub mod place;
 pub mod thinning;
@@ -154,17 +156,6 @@ pub fn read(lent: &[u8]) -> Result<Trail, u8> {
     })
 }
 
-/// What a reader says at a position of bytes that nobody checked: the fix, if the count field and the lent bytes
-/// reach that far. Document 01 has no sentence about it; `include/trails.h` has.
-pub fn standing(lent: &[u8], position: usize) -> Option<Fix> {
-    let head = Head::decode(lent)?;
-    if position >= usize::from(head.count) {
-        return None;
-    }
-    let bytes = lent.get(record_length(position)..record_length(position + 1))?;
-    Some(Fix::decode(bytes))
-}
-
 /// The writer, which makes checks 3, 7, 8, 9 and 15 and answers the record's length.
 pub fn write(fixes: &[Fix], output: &mut [u8]) -> Result<usize, u8> {
     let length = record_length(fixes.len());
@@ -175,11 +166,25 @@ pub fn write(fixes: &[Fix], output: &mut [u8]) -> Result<usize, u8> {
     Ok(length)
 }
 
-/// What the listing program prints of its whole standard input.
+/// The record that a program takes from its whole standard input, or the line that it prints instead.
+fn received(input: &[u8]) -> Result<Trail, String> {
+    let first = &input[..input.len().min(LONGEST)];
+    read(first).map_err(|number| format!("refused {number}\n"))
+}
+
+/// What the program that writes records anew prints: the record, marked never and with nothing after it.
+pub fn rewritten(input: &[u8]) -> Vec<u8> {
+    match received(input) {
+        Ok(trail) => record(NEVER, &trail.fixes),
+        Err(line) => line.into_bytes(),
+    }
+}
+
+/// What the listing program prints.
 pub fn listing(input: &[u8]) -> String {
-    let trail = match read(&input[..input.len().min(LONGEST)]) {
+    let trail = match received(input) {
         Ok(trail) => trail,
-        Err(number) => return format!("refused {number}\n"),
+        Err(line) => return line,
     };
     let mark = match trail.mark {
         NEVER => String::from("never"),

@@ -1,8 +1,9 @@
 //! One call of aging, by tolerance or by days: its answer, the record, its mark and the bytes after it.
 #![forbid(unsafe_code)]
 
-use trails_tests::agings::{stays_near, Buffer, Call};
+use trails_tests::agings::{stays_near, Buffer};
 use trails_tests::cases::{Cases, Random, Settings, Tally};
+use trails_tests::plain::lists::Call;
 use trails_tests::plain::thinning::thin;
 use trails_tests::plain::{Fix, MOST_FIXES, NEVER};
 use trails_tests::shapes::{trail, Shape, SHAPES};

@@ -2,13 +2,14 @@
 //! what a yes and a no say about the original.
 #![forbid(unsafe_code)]
 
-use trails_tests::agings::{some_calls, Book, Buffer, Call};
-use trails_tests::cases::{Cases, Random, Settings};
-use trails_tests::interface::{crosses_after, run, Crossing};
+use trails_tests::agings::{some_calls, Buffer};
+use trails_tests::cases::{Random, Settings, Tally};
+use trails_tests::interface::{self, crosses_after, run, Crossing};
 use trails_tests::plain::crossing::{crosses, telling_times, Area, Question, Window};
+use trails_tests::plain::lists::{self, Book, Call};
 use trails_tests::plain::place::{Place, Time};
 use trails_tests::plain::{record_length, Fix, MOST_FIXES};
-use trails_tests::questions::{agrees, told, Asked as _};
+use trails_tests::questions::{agrees, refused_in_order, told, Asked as _};
 use trails_tests::shapes::{trail, SHAPES};
 
 /// A list and a question, and how many answers were of each kind, so that none can be missing unseen.
@@ -43,15 +44,20 @@ impl Run {
         let mut buffer = Buffer::never_thinned(name, fixes, &mut self.random);
         let before = buffer.bytes.clone();
         let answer = crosses_after(&mut buffer.bytes, &numbers, question);
-        let mut unasked = before.clone();
-        run(&mut unasked, &numbers);
-        assert_eq!(unasked, buffer.bytes, "{}", buffer.name);
-        let book = leaves_what_the_book_says(&buffer, &before, fixes, calls);
-        agrees(answer, crosses(&buffer.bytes, question), &buffer.name);
+        let mut aged = Buffer::new(buffer.name.clone(), before.clone());
+        let run = run(&mut aged.bytes, &numbers);
+        assert_eq!(run, tells_the_calls(calls), "{}", buffer.name);
+        let book = leaves_what_the_book_says(&aged, &before, fixes, calls);
+        // refused or not, the question is of the trail before as it is of the trail after
+        agrees(answer, crosses(&aged.bytes, question), &buffer.name);
         let e = book.e.unwrap_or(0);
         if answer.refusal != 0 {
+            assert!(buffer.bytes == before, "{}: refused", buffer.name);
             self.refused += 1;
-        } else if answer.crosses == 1 {
+            return;
+        }
+        assert!(buffer.bytes == aged.bytes, "{}: other bytes", buffer.name);
+        if answer.crosses == 1 {
             self.told[told_is_near(&answer, fixes, question, e, &buffer.name)] += 1;
         } else {
             self.denied[denied_is_outside(fixes, question, e, &buffer.name)] += 1;
@@ -77,7 +83,16 @@ impl Run {
     }
 }
 
-/// The record is the book's, whatever the question was, and every byte is as the plain agings leave it.
+/// Of an accepted record: none refused it, and so many calls were turned away.
+fn tells_the_calls(calls: &[Call]) -> interface::Run {
+    let high = |call: &&Call| matches!(call, Call::Tolerance(32_001..));
+    interface::Run {
+        refusal: 0,
+        turned_away: calls.iter().filter(high).count(),
+    }
+}
+
+/// The record is the book's, and every byte is as the plain agings leave it.
 fn leaves_what_the_book_says(
     buffer: &Buffer,
     before: &[u8],
@@ -88,7 +103,8 @@ fn leaves_what_the_book_says(
     let mut plain = before.to_vec();
     for &call in calls {
         book.feed(call);
-        call.plain(&mut plain);
+        // a refused call leaves the buffer
+        let _ = call.make(&mut plain);
     }
     let name = &buffer.name;
     assert_eq!(buffer.trail(), book.expected(), "{name}");
@@ -171,10 +187,6 @@ fn lists_of_small_tolerances() {
 
 const BOUND: [Call; 3] = [Call::Tolerance(12), Call::Tolerance(50), Call::Days(7)];
 
-fn fix(&(t, x, y): &(u32, i16, i16)) -> Fix {
-    Fix { t, x, y }
-}
-
 fn at_second(second: u32, area: Area) -> Question {
     let (start, end) = (second, second);
     let window = Window { start, end };
@@ -184,7 +196,7 @@ fn at_second(second: u32, area: Area) -> Question {
 /// Document 01's trail c: at second 10 the record has the cart in the box, a point, and the original 50 from it.
 #[test]
 fn a_yes_may_be_off_by_all_of_e() {
-    let fixes = [(0, 0, 0), (10, 30, 40), (20, 0, 0)].map(|row| fix(&row));
+    let fixes = [(0, 0, 0), (10, 30, 40), (20, 0, 0)].map(Fix::from);
     let question = at_second(10, Area::new((0, 0), (0, 0)));
     let mut run = Run::new();
     run.case("c", &fixes, &BOUND, &question);
@@ -197,7 +209,7 @@ fn a_yes_may_be_off_by_all_of_e() {
 /// the record has x at 5/3, left of the box, and the original at 155/3, which is 149/3 from the left edge.
 #[test]
 fn a_no_may_be_off_by_more_than_the_whole_number_below_e() {
-    let fixes = [(0, 0, 0), (3, 51, 0), (6, 52, 0), (9, 3, 0)].map(|row| fix(&row));
+    let fixes = [(0, 0, 0), (3, 51, 0), (6, 52, 0), (9, 3, 0)].map(Fix::from);
     let question = at_second(5, Area::new((2, 200), (-100, 100)));
     let mut run = Run::new();
     run.case("ahead", &fixes, &BOUND, &question);
@@ -220,28 +232,28 @@ fn the_longest_trails_and_a_long_list() {
     }
 }
 
-/// A record that is turned away: every call of the list is, the crossing is too, and no byte is changed.
+/// A record that is turned away, or a question: no call of the list is made, and no byte is changed.
 #[test]
-fn a_refused_record_is_left_as_it_was() {
-    let settings = Settings::get();
-    let mut run = Run::new();
-    let fixes = trail(SHAPES[0], 3, &mut run.random);
-    for case in Cases::all(settings) {
-        let calls = some_calls(&mut run.random);
-        let numbers = run.numbers(&calls);
-        let question = run.question(&fixes);
-        let mut plain = case.bytes.clone();
-        for &call in &calls {
-            call.plain(&mut plain);
-        }
-        let mut bytes = case.bytes.clone();
-        let answer = crosses_after(&mut bytes, &numbers, &question);
-        let name = format!("{}, {calls:?}, {question:?}", case.name);
-        agrees(answer, crosses(&plain, &question), &name);
+fn what_is_refused_is_left_as_it_was() {
+    let numbers = [12, 32_001, 65_536 + 7];
+    let calls = Call::all_of(&numbers);
+    let mut tally = Tally::default();
+    let faults: [&[u8]; 4] = [&[], &[13], &[14], &[14, 13]];
+    refused_in_order(&faults, &mut tally, |record, question: &Question, name| {
+        let (mut bytes, mut plain) = (record.to_vec(), record.to_vec());
+        let answer = crosses_after(&mut bytes, &numbers, question);
+        let name = format!("{name}, {question:?}");
+        agrees(
+            answer,
+            lists::crosses_after(&mut plain, &calls, question),
+            &name,
+        );
         assert!(bytes == plain, "{name}: other bytes");
-        if let Some(known @ 1..) = case.known {
-            assert_eq!(answer.refusal, known.into(), "{name}");
-            assert!(bytes == case.bytes, "{name}: a refused record's bytes");
-        }
-    }
+        assert!(answer.refusal == 0 || bytes == record, "{name}: refused");
+        answer.refusal
+    });
+    tally.expect(
+        "crossing after a list",
+        &[1, 2, 3, 4, 5, 6, 7, 8, 9, 13, 14],
+    );
 }

@@ -3,11 +3,12 @@
 #![forbid(unsafe_code)]
 
 use trails_tests::cases::Settings;
-use trails_tests::compare::{plain, proved, run, Case, Columns, Crossed, Outcome, Reply};
+use trails_tests::columns::Columns;
+use trails_tests::compare::{plain, proved, run, Case, Crossed, Outcome, Reply};
 use trails_tests::compare::{Operation, Sides};
 use trails_tests::plain::crossing::{Area, Question, Window};
 use trails_tests::plain::thinning::thin;
-use trails_tests::plain::{encode, read, record_length, Fix, Head, NEVER};
+use trails_tests::plain::{self, read, record_length, Fix, NEVER};
 
 const SETTINGS: Settings = Settings {
     seed: 7,
@@ -15,9 +16,8 @@ const SETTINGS: Settings = Settings {
 };
 
 fn record(mark: u16, fixes: &[(u32, i16, i16)]) -> Vec<u8> {
-    let fix = |&(t, x, y): &(u32, i16, i16)| Fix { t, x, y };
-    let fixes: Vec<Fix> = fixes.iter().map(fix).collect();
-    encode(Head::of(mark, fixes.len()), &fixes)
+    let fixes: Vec<Fix> = fixes.iter().copied().map(Fix::from).collect();
+    plain::record(mark, &fixes)
 }
 
 /// How many fixes an accepted record has, and 0 of others.
@@ -135,6 +135,39 @@ fn a_list_is_shown_with_the_calls_that_matter() {
 }
 
 #[test]
+fn a_list_whose_count_is_wrong_is_shown_with_the_calls_that_are_counted() {
+    let case = shown(|_, outcome| {
+        if let Reply::Run(run) = &mut outcome.reply {
+            run.turned_away += usize::from(run.turned_away >= 2);
+        }
+    });
+    assert_eq!(case.operation, Operation::Run(vec![32_001, 32_001]));
+    assert_eq!(case.buffer, record(0, &[(0, 0, 0)]));
+}
+
+#[test]
+fn a_column_that_is_not_filled_to_its_end_is_shown_alone() {
+    let case = shown(|case, outcome| {
+        if let (Operation::ReadAll(before), Operation::ReadAll(after)) =
+            (&case.operation, &mut outcome.after.operation)
+        {
+            // the second and last element that is filled is left as it was
+            let count = fixes(&case.buffer);
+            if count >= 2 && before.y.len() == count {
+                after.y[count - 1] = before.y[count - 1];
+            }
+        }
+    });
+    let Operation::ReadAll(columns) = case.operation else {
+        panic!("{case:?}");
+    };
+    assert_eq!(columns.lengths(), [0, 0, 2]);
+    // the old number and the new one differ by 1
+    let last = read(&case.buffer).expect("it is accepted").fixes[1].y;
+    assert_eq!((last - columns.y[1]).abs(), 1, "{columns:?}, {last}");
+}
+
+#[test]
 fn a_place_that_the_writer_gets_wrong_is_shown_alone() {
     let case = shown(|case, outcome| {
         if let (Operation::Write(Columns { x, .. }), Reply::Answer(answer)) =
@@ -175,13 +208,24 @@ fn a_crossing_that_is_missed_is_shown_by_one_leg() {
             }
         }
     });
-    assert_eq!(case.buffer, record(0, &[(0, 0, 0), (1, 2, 0)]));
+    let fixes = read(&case.buffer).expect("it is accepted").fixes;
+    let times: Vec<u32> = fixes.iter().map(|fix| fix.t).collect();
+    assert_eq!(times, [0, 1]);
+    // a way of 2 along one axis, as 0 to 2 or as -1 to 1, and a box that is one place on it
+    let off = fixes.iter().map(|fix| fix.x.abs() + fix.y.abs());
+    assert_eq!(off.sum::<i16>(), 2, "{fixes:?}");
     let (Operation::Crosses(question) | Operation::CrossesAfter(_, question)) = case.operation
     else {
         panic!("{case:?}");
     };
     assert_eq!(question.window, Window { start: 0, end: 1 });
-    assert_eq!(question.area, Area::new((1, 1), (0, 0)));
+    let Area {
+        left,
+        right,
+        bottom,
+        top,
+    } = question.area;
+    assert_eq!((left, bottom), (right, top), "{fixes:?}");
 }
 
 #[test]

@@ -1,9 +1,10 @@
 //! Document 02's dearest trail: the most measuring that n fixes can cost, and the deepest that splits can nest.
 #![forbid(unsafe_code)]
 
-use trails_tests::agings::{Buffer, Call};
+use trails_tests::agings::Buffer;
 use trails_tests::cases::Random;
 use trails_tests::interface::Answer;
+use trails_tests::plain::lists::Call;
 use trails_tests::plain::{Fix, MOST_FIXES};
 use trails_tests::shapes::dearest;
 

@@ -2,8 +2,11 @@
 //! greatest tolerance that was applied.
 #![forbid(unsafe_code)]
 
-use trails_tests::agings::{some_calls, stays_near, Book, Buffer, Call};
-use trails_tests::cases::{Random, Settings};
+use trails_tests::agings::{some_calls, stays_near, Buffer};
+use trails_tests::cases::{Cases, Random, Settings, Tally};
+use trails_tests::expected;
+use trails_tests::interface::run;
+use trails_tests::plain::lists::{Book, Call};
 use trails_tests::plain::{Fix, MOST_FIXES};
 use trails_tests::shapes::{trail, SHAPES};
 
@@ -89,4 +92,33 @@ fn every_order_of_the_same_calls_is_a_list() {
             ages(name, &fixes, &order, &mut random);
         }
     }
+}
+
+/// As one call: it tells why the record is refused, and then nothing is done; or how many calls were turned away.
+#[test]
+fn a_list_as_one_call_tells_what_became_of_it() {
+    let settings = Settings::get();
+    let mut random = Random::new(settings.seed);
+    let mut tally = Tally::default();
+    let mut most = 0;
+    for case in Cases::all(settings) {
+        let calls = some_calls(&mut random);
+        let numbers: Vec<u32> = calls.iter().map(|call| call.number(&mut random)).collect();
+        let name = format!("{}, {calls:?}", case.name);
+        let (mut bytes, mut plain) = (case.bytes.clone(), case.bytes.clone());
+        let told = run(&mut bytes, &numbers);
+        assert_eq!(told, expected::run(&mut plain, &numbers), "{name}");
+        assert!(bytes == plain, "{name}: other bytes");
+        if let Some(known) = case.known {
+            assert_eq!(told.refusal, known.into(), "{name}");
+        }
+        if told.refusal != 0 {
+            assert_eq!((told.turned_away, &bytes), (0, &case.bytes), "{name}");
+        }
+        tally.count(told.refusal);
+        most = most.max(told.turned_away);
+    }
+    tally.expect("list", &[1, 2, 3, 4, 5, 6, 7, 8, 9]);
+    println!("list: up to {most} calls turned away");
+    assert!(most > 1);
 }

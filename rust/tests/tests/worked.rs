@@ -1,9 +1,10 @@
 //! Trails with results by hand: document 01's a to j, and the counterexamples of source document 003.
 #![forbid(unsafe_code)]
 
-use trails_tests::agings::{stays_near, Buffer, Call};
+use trails_tests::agings::{stays_near, Buffer};
 use trails_tests::cases::Random;
 use trails_tests::interface::Answer;
+use trails_tests::plain::lists::Call;
 use trails_tests::plain::Fix;
 
 /// A trail, the tolerances at which it is aged one after the other, the positions that stay, and the count of each
@@ -35,8 +36,7 @@ const fn row(
 impl Row {
     /// Nothing but the fixes that stay are left, with the greatest tolerance as the mark.
     fn holds(&self) {
-        let fix = |&(t, x, y): &(u32, i16, i16)| Fix { t, x, y };
-        let fixes: Vec<Fix> = self.fixes.iter().map(fix).collect();
+        let fixes: Vec<Fix> = self.fixes.iter().copied().map(Fix::from).collect();
         let mut random = Random::new(1);
         let mut buffer = Buffer::never_thinned(self.name.to_string(), &fixes, &mut random);
         assert_eq!(self.tolerances.len(), self.counts.len(), "{}", self.name);

@@ -2,6 +2,7 @@
 #![forbid(unsafe_code)]
 
 use trails_tests::cases::{fixes, spoil, Random, Settings, Tally};
+use trails_tests::columns::Columns;
 use trails_tests::expected;
 use trails_tests::interface::{self, Answer};
 use trails_tests::plain::{self, Fix, MOST_FIXES};
@@ -12,15 +13,8 @@ struct Written {
     output: Vec<u8>,
 }
 
-fn columns(list: &[Fix]) -> (Vec<u32>, Vec<i16>, Vec<i16>) {
-    let t = list.iter().map(|fix| fix.t).collect();
-    let x = list.iter().map(|fix| fix.x).collect();
-    let y = list.iter().map(|fix| fix.y).collect();
-    (t, x, y)
-}
-
 fn write(list: &[Fix], before: &[u8]) -> Written {
-    let (t, x, y) = columns(list);
+    let Columns { t, x, y } = Columns::of(list);
     let mut output = before.to_vec();
     let answer = interface::write(&t, &x, &y, &mut output);
     Written { answer, output }
@@ -37,13 +31,11 @@ fn reads_back(list: &[Fix], output: &[u8], name: &str) {
     let head = interface::check(output);
     let facts = (head.refusal, head.count as usize, head.mark);
     assert_eq!(facts, (0, list.len(), 65_535), "{name}");
-    for (position, fix) in list.iter().enumerate() {
-        let step = interface::read(output, position);
-        let seen = (step.found, step.t, step.x, step.y);
-        let want = (1, fix.t, fix.x.into(), fix.y.into());
-        assert_eq!(seen, want, "{name}, position {position}");
-    }
-    assert_eq!(interface::read(output, list.len()).found, 0, "{name}");
+    let before = Fix { t: 0, x: 0, y: 0 };
+    let mut columns = Columns::of(&vec![before; list.len()]);
+    let answer = interface::read_all(output, &mut columns);
+    let read = (answer.refusal, answer.value as usize, columns.fixes());
+    assert_eq!(read, (0, list.len(), list.to_vec()), "{name}");
 }
 
 /// A run of the writer's tests: where its cases come from, and what they were refused for.
@@ -152,7 +144,8 @@ fn lists_are_written_or_refused_as_the_plain_version_does() {
 #[test]
 fn columns_of_other_lengths_are_as_long_as_the_shortest() {
     let mut run = Run::new();
-    let (t, x, y) = columns(&fixes(&mut run.random, 5));
+    let all = fixes(&mut run.random, 5);
+    let Columns { t, x, y } = Columns::of(&all);
     for (a, b, c) in [
         (5, 4, 3),
         (3, 5, 4),
@@ -161,18 +154,11 @@ fn columns_of_other_lengths_are_as_long_as_the_shortest() {
         (0, 5, 5),
         (5, 0, 5),
     ] {
-        let n = a.min(b).min(c);
-        let list: Vec<Fix> = (0..n)
-            .map(|k| Fix {
-                t: t[k],
-                x: x[k],
-                y: y[k],
-            })
-            .collect();
+        let list = &all[..a.min(b).min(c)];
         let before = run.random.bytes(64);
         let mut output = before.clone();
         let answer = interface::write(&t[..a], &x[..b], &y[..c], &mut output);
-        let want = plain_write(&list, &before);
+        let want = plain_write(list, &before);
         assert_eq!((answer, output), (want.answer, want.output), "{a} {b} {c}");
     }
 }

@@ -42,10 +42,10 @@ fn check(name: &OsStr, json: bool) -> Result<(), Failure> {
     let bytes = files::read(name)?;
     let file = files::text_of(name);
     let head = trails::check(&bytes).map_err(Failure::refused(&file))?;
-    let mut fixes = trails::fixes(&bytes).map_err(Failure::refused(&file))?;
-    // an accepted trail has a first fix
-    let first = fixes.next().map_or(0, |fix| fix.t);
-    let last = fixes.last().map_or(first, |fix| fix.t);
+    let fixes = trails::fixes(&bytes).map_err(Failure::refused(&file))?;
+    // an accepted trail has a first fix and a last
+    let first = fixes.first().map_or(0, |fix| fix.t);
+    let last = fixes.last().map_or(0, |fix| fix.t);
     let count = head.count;
     if !json {
         let mark = words::mark(head.mark);

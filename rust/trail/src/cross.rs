@@ -37,8 +37,8 @@ fn run(arguments: &Arguments) -> Result<Status, Failure> {
     let bytes = files::read(name)?;
     let file = files::text_of(name);
     let crossing = trails::crosses(&bytes, area, window).map_err(Failure::refused(&file))?;
-    let mut fixes = trails::fixes(&bytes).map_err(Failure::refused(&file))?;
-    let first = fixes.next().map_or(0, |fix| fix.t);
+    let fixes = trails::fixes(&bytes).map_err(Failure::refused(&file))?;
+    let first = fixes.first().map_or(0, |fix| fix.t);
     match arguments.has("--json") {
         true => output::print_json(answer(file, crossing, first))?,
         false => output::print(&text(crossing, first))?,

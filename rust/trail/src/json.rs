@@ -18,10 +18,10 @@ impl Json {
     }
 
     /// Fixes as lists of time, x and y.
-    pub fn fixes(fixes: impl Iterator<Item = trails::Fix>) -> Json {
-        let numbers = |fix: trails::Fix| [fix.t.into(), fix.x.into(), fix.y.into()];
+    pub fn fixes(fixes: &[trails::Fix]) -> Json {
+        let numbers = |fix: &trails::Fix| [fix.t.into(), fix.x.into(), fix.y.into()];
         let list = |fix| Json::List(numbers(fix).map(Json::Whole).into());
-        Json::List(fixes.map(list).collect())
+        Json::List(fixes.iter().map(list).collect())
     }
 }
 

@@ -38,7 +38,7 @@ fn run(arguments: &Arguments) -> Result<Status, Failure> {
         ("file", Json::Text(file)),
         ("count", Json::Whole(head.count.into())),
         ("mark", Json::mark(head.mark)),
-        ("fixes", Json::fixes(fixes)),
+        ("fixes", Json::fixes(&fixes)),
     ]))?;
     Ok(Status::Done)
 }

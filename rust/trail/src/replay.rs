@@ -125,6 +125,6 @@ fn answer(
         ("answers", Json::List(done.iter().map(one).collect())),
         ("E", Json::mark(greatest)),
         ("mark", Json::mark(trails::check(record)?.mark)),
-        ("fixes", Json::fixes(trails::fixes(record)?)),
+        ("fixes", Json::fixes(&trails::fixes(record)?)),
     ]))
 }

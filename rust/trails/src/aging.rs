@@ -1,7 +1,7 @@
 //! Aging: thinning again what was thinned.
 
-use crate::interface::{self, Answer};
-use crate::refusal::Refusal;
+use crate::interface;
+use crate::refusal::{value, Refusal};
 
 /// An aging that can be asked.
 #[derive(Clone, Copy, Debug, PartialEq, Eq, Hash)]
@@ -43,11 +43,6 @@ impl Aging {
     }
 }
 
-fn measured(answer: Answer) -> Result<u32, Refusal> {
-    Refusal::none_in(answer.refusal)?;
-    Ok(answer.value)
-}
-
 /// Ages the record by tolerance, in centimetres: its fixes are thinned, the kept ones close up at its start, length
 /// and count follow, and the mark becomes the greatest tolerance applied. All bytes from the new length on stay.
 /// Answers how many fixes were measured. Makes checks 1 to 10.
@@ -55,19 +50,22 @@ fn measured(answer: Answer) -> Result<u32, Refusal> {
 /// STACK. An aging takes up to 600,000 bytes of stack, for a record of 4,096 fixes. Rust's threads have more unless they
 /// are asked to have less; one with less must not age long trails.
 pub fn age(record: &mut [u8], tolerance: u16) -> Result<u32, Refusal> {
-    measured(interface::age(record, tolerance))
+    value(interface::age(record, tolerance))
 }
 
 /// Ages the record by days: from day 2 at tolerance 10, from day 7 at 25, from day 30 at 100, from day 90 at 400.
 /// Days 0 and 1 change nothing. Makes checks 1 to 9. STACK: as `age`.
 pub fn age_by_days(record: &mut [u8], days: u16) -> Result<u32, Refusal> {
-    measured(interface::age_by_days(record, days))
+    value(interface::age_by_days(record, days))
 }
 
-/// Makes all agings of a list, one after the other, each on the record as the one before left it. Refused ones change
-/// nothing, and those after them are made. STACK: as `age`.
-pub fn run(record: &mut [u8], list: &[Aging]) {
-    interface::run(record, &numbers(list));
+/// Makes all agings of a list, one after the other, each on the record as the one before left it. Those that are turned
+/// away, by a tolerance above 32,000, change nothing, and those after them are made. Answers how many they were. Makes
+/// checks 1 to 9, and where one fails makes no aging. STACK: as `age`.
+pub fn run(record: &mut [u8], list: &[Aging]) -> Result<usize, Refusal> {
+    let run = interface::run(record, &numbers(list));
+    Refusal::none_in(run.refusal)?;
+    Ok(run.turned_away)
 }
 
 /// A list as it is lent to the interface.

@@ -20,6 +20,8 @@ pub struct Head {
 #[repr(C)]
 #[derive(Clone, Copy, Debug, Default, PartialEq, Eq)]
 pub struct Step {
+    /// 0 for none; else all that follows is 0.
+    pub refusal: u32,
     /// 1 and the fix follows; or 0, and everything is: none is left.
     pub found: u32,
     /// Seconds.
@@ -38,6 +40,16 @@ pub struct Answer {
     pub refusal: u32,
     /// What it is stands with each function.
     pub value: u32,
+}
+
+/// What became of a list of agings.
+#[repr(C)]
+#[derive(Clone, Copy, Debug, PartialEq, Eq)]
+pub struct Run {
+    /// 0 for none; else nothing was done, and what follows is 0.
+    pub refusal: u32,
+    /// How many of the list's calls were refused.
+    pub turned_away: usize,
 }
 
 /// Where a cart was: (x / denominator, y / denominator), in centimetres.
@@ -95,6 +107,16 @@ pub const LONGEST_TEXT: usize = 118_805;
 extern "C" {
     fn trails_check(record: *const u8, lent: usize) -> Head;
     fn trails_read(record: *const u8, lent: usize, position: usize) -> Step;
+    fn trails_read_all(
+        record: *const u8,
+        lent: usize,
+        t: *mut u32,
+        t_count: usize,
+        x: *mut i16,
+        x_count: usize,
+        y: *mut i16,
+        y_count: usize,
+    ) -> Answer;
     fn trails_write(
         t: *const u32,
         t_count: usize,
@@ -119,7 +141,7 @@ extern "C" {
         bottom: i32,
         top: i32,
     ) -> Crossing;
-    fn trails_run(record: *mut u8, lent: usize, calls: *const u32, call_count: usize);
+    fn trails_run(record: *mut u8, lent: usize, calls: *const u32, call_count: usize) -> Run;
     fn trails_crosses_after(
         record: *mut u8,
         lent: usize,
@@ -141,10 +163,27 @@ pub fn check(record: &[u8]) -> Head {
     unsafe { trails_check(record.as_ptr(), record.len()) }
 }
 
-/// The fix at a position. It makes no check: see the header.
+/// The fix at a position: checks 1 to 9.
 pub fn read(record: &[u8], position: usize) -> Step {
     // SAFETY: as in `check`.
     unsafe { trails_read(record.as_ptr(), record.len(), position) }
+}
+
+/// All fixes, into three columns, of which each gets as many as it holds: checks 1 to 9. The value is the record's count.
+pub fn read_all(record: &[u8], t: &mut [u32], x: &mut [i16], y: &mut [i16]) -> Answer {
+    // SAFETY: as in `check`; each column is lent alone, so that it may be written and overlaps nothing else.
+    unsafe {
+        trails_read_all(
+            record.as_ptr(),
+            record.len(),
+            t.as_mut_ptr(),
+            t.len(),
+            x.as_mut_ptr(),
+            x.len(),
+            y.as_mut_ptr(),
+            y.len(),
+        )
+    }
 }
 
 /// The record of the fixes in three columns, as long as the shortest: checks 3, 7, 8, 9 and 15. The value is its length.
@@ -205,8 +244,9 @@ pub fn crosses(record: &[u8], asked: Question) -> Crossing {
     }
 }
 
-/// Makes all agings of a list: a call below 65,536 is a tolerance, and one from there on is days, by its lower 16 bits.
-pub fn run(record: &mut [u8], calls: &[u32]) {
+/// Makes all agings of a list: checks 1 to 9. A call below 65,536 is a tolerance, and one from there on is days, by its
+/// lower 16 bits.
+pub fn run(record: &mut [u8], calls: &[u32]) -> Run {
     // SAFETY: as in `age`; the record overlaps no call.
     unsafe {
         trails_run(
@@ -218,7 +258,7 @@ pub fn run(record: &mut [u8], calls: &[u32]) {
     }
 }
 
-/// Makes all agings of a list, as `run` does, and then asks as `crosses` does.
+/// Makes all agings of a list, as `run` does, and then asks as `crosses` does: checks 1 to 9, 13 and 14, before any aging.
 pub fn crosses_after(record: &mut [u8], calls: &[u32], asked: Question) -> Crossing {
     // SAFETY: as in `age`; the record overlaps no call.
     unsafe {

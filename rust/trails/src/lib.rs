@@ -13,8 +13,7 @@
 //! let mut record = trails::write(&[fix(0, 0), fix(10, 100), fix(20, 200)])?;
 //! assert_eq!(trails::age(&mut record, 40_000), Err(Refusal::HighTolerance));
 //! assert_eq!(trails::age(&mut record, 0), Ok(1));
-//! let kept: Vec<Fix> = trails::fixes(&record)?.collect();
-//! assert_eq!(kept, [fix(0, 0), fix(20, 200)]);
+//! assert_eq!(trails::fixes(&record)?, [fix(0, 0), fix(20, 200)]);
 //! # Ok::<(), Refusal>(())
 //! ```
 #![deny(unsafe_code)]
@@ -28,5 +27,5 @@ mod refusal;
 
 pub use aging::{age, age_by_days, run, Aging};
 pub use questions::{crosses, crosses_after, place, Area, Crossing, Moment, Place, Window};
-pub use record::{check, fixes, list, write, write_into, Fix, Fixes, Head, LONGEST};
+pub use record::{check, fixes, list, write, write_into, Fix, Head, LONGEST};
 pub use refusal::Refusal;

@@ -108,8 +108,8 @@ pub fn crosses(record: &[u8], area: Area, window: Window) -> Result<Option<Cross
     told(interface::crosses(record, asked(area, window)))
 }
 
-/// Makes all agings of a list, refused ones too, and then asks `crosses`. Where the question is refused for its
-/// window or its box, the agings are made nevertheless. STACK: as `age`.
+/// Makes all agings of a list, as `run` does, and then asks `crosses` of what is left. Makes checks 1 to 9, 13 and 14
+/// first, and where one fails makes no aging. STACK: as `age`.
 pub fn crosses_after(
     record: &mut [u8],
     list: &[Aging],

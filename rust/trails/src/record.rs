@@ -1,10 +1,14 @@
 //! The trail record: its head, its fixes, writing one, and its listing.
 
 use crate::interface::{self, LONGEST_TEXT};
-use crate::refusal::Refusal;
+use crate::refusal::{value, Refusal};
 
 /// The most bytes that a record has.
 pub const LONGEST: usize = 32_778;
+
+/// The bytes before a record's fixes, and those of each fix.
+const HEAD: usize = 10;
+const FIX: usize = 8;
 
 /// The mark of a trail that was never thinned, as a record has it.
 const NEVER: u32 = 65_535;
@@ -29,32 +33,6 @@ pub struct Head {
     pub mark: Option<u16>,
 }
 
-/// The fixes of an accepted record, in order.
-#[derive(Clone, Debug)]
-pub struct Fixes<'a> {
-    // accepted when `fixes` made this, and unchanged while it is lent
-    record: &'a [u8],
-    position: usize,
-}
-
-impl Iterator for Fixes<'_> {
-    type Item = Fix;
-
-    fn next(&mut self) -> Option<Fix> {
-        let step = interface::read(self.record, self.position);
-        if step.found == 0 {
-            return None;
-        }
-        self.position = self.position.saturating_add(1);
-        // of an accepted record both fit
-        Some(Fix {
-            t: step.t,
-            x: i16::try_from(step.x).ok()?,
-            y: i16::try_from(step.y).ok()?,
-        })
-    }
-}
-
 /// Whether the bytes begin with a record; bytes after it are ignored. Makes checks 1 to 9.
 pub fn check(record: &[u8]) -> Result<Head, Refusal> {
     let head = interface::check(record);
@@ -66,13 +44,15 @@ pub fn check(record: &[u8]) -> Result<Head, Refusal> {
     })
 }
 
-/// The fixes of the record that the bytes begin with. Makes checks 1 to 9.
-pub fn fixes(record: &[u8]) -> Result<Fixes<'_>, Refusal> {
-    check(record)?;
-    Ok(Fixes {
-        record,
-        position: 0,
-    })
+/// The fixes of the record that the bytes begin with, in order. Makes checks 1 to 9.
+pub fn fixes(record: &[u8]) -> Result<Vec<Fix>, Refusal> {
+    // as many as the bytes have room for, since how many there are is known only afterwards
+    let room = record.len().min(LONGEST).saturating_sub(HEAD) / FIX;
+    let (mut t, mut x, mut y) = (vec![0; room], vec![0; room], vec![0; room]);
+    let count = value(interface::read_all(record, &mut t, &mut x, &mut y))?;
+    let places = x.into_iter().zip(y);
+    let fixes = t.into_iter().zip(places).map(|(t, (x, y))| Fix { t, x, y });
+    Ok(fixes.take(count as usize).collect())
 }
 
 /// Puts the record of a list of fixes at the output's start, marked never thinned, and answers its length; later
@@ -81,10 +61,8 @@ pub fn write_into(list: &[Fix], output: &mut [u8]) -> Result<usize, Refusal> {
     let t: Vec<u32> = list.iter().map(|fix| fix.t).collect();
     let x: Vec<i16> = list.iter().map(|fix| fix.x).collect();
     let y: Vec<i16> = list.iter().map(|fix| fix.y).collect();
-    let answer = interface::write(&t, &x, &y, output);
-    Refusal::none_in(answer.refusal)?;
-    // a record's length is at most LONGEST, which fits
-    Ok(usize::try_from(answer.value).unwrap_or(usize::MAX))
+    let length = value(interface::write(&t, &x, &y, output))?;
+    Ok(length as usize)
 }
 
 /// The record of a list of fixes, marked never thinned. Makes checks 3, 7, 8 and 9.

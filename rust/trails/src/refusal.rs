@@ -2,6 +2,8 @@
 
 use std::fmt;
 
+use crate::interface::Answer;
+
 /// Why a call was turned away. A refused call leaves all lent bytes as they were.
 #[derive(Clone, Copy, Debug, PartialEq, Eq, Hash)]
 pub enum Refusal {
@@ -125,6 +127,12 @@ impl Refusal {
         let known = SENTENCES.iter().find(|(refusal, _)| *refusal == self);
         known.map_or("The number isn't document 01's.", |(_, sentence)| sentence)
     }
+}
+
+/// The value of an answer, or why there is none.
+pub(crate) fn value(answer: Answer) -> Result<u32, Refusal> {
+    Refusal::none_in(answer.refusal)?;
+    Ok(answer.value)
 }
 
 impl fmt::Display for Refusal {

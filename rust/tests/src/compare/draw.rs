@@ -1,16 +1,17 @@
 //! Cases for the comparison: a buffer, mostly with a small trail, and an operation that fits it or is refused.
 
-use super::{Case, Columns, Operation};
-use crate::agings::Call;
+use super::{Case, Operation};
 use crate::cases::{spoil, Draft, Random};
+use crate::columns::Columns;
 use crate::plain::crossing::Question;
-use crate::plain::{record_length, Fix, Head, MOST_FIXES, NEVER};
+use crate::plain::lists::Call;
+use crate::plain::{read, record_length, Fix, Head, MOST_FIXES, NEVER};
 use crate::questions::{Asked, Moment};
 use crate::shapes::{trail, SHAPES};
 
 pub fn case(random: &mut Random) -> Case {
     let buffer = buffer(random);
-    let operation = match random.between(0, 9) {
+    let operation = match random.between(0, 10) {
         0 => Operation::Check,
         1 => Operation::Read(positions(random)),
         2 => return writing(random),
@@ -20,6 +21,7 @@ pub fn case(random: &mut Random) -> Case {
         6 => Operation::Run(calls(random)),
         7 => Operation::Place(asked::<Moment>(&buffer, [11, 12], random)),
         8 => Operation::Crosses(asked::<Question>(&buffer, [13, 14], random)),
+        9 => Operation::ReadAll(lent_columns(&buffer, random)),
         _ => {
             let question = asked::<Question>(&buffer, [13, 14], random);
             Operation::CrossesAfter(calls(random), question)
@@ -117,6 +119,20 @@ fn positions(random: &mut Random) -> Vec<usize> {
     (0..many).map(&mut position).collect()
 }
 
+/// Columns to read into: each as long as the record has fixes, shorter, longer or of no length, half of the time all of
+/// one length.
+fn lent_columns(buffer: &[u8], random: &mut Random) -> Columns {
+    let count = read(buffer).map_or(6, |trail| trail.fixes.len()) as i64;
+    let mut length = || {
+        let less = random.between(0, count - 1);
+        let more = count + random.between(1, 9);
+        random.pick(&[0, less, count - 1, count, count, count + 1, more]) as usize
+    };
+    let (t, x, y) = (length(), length(), length());
+    let lengths = random.pick(&[[t, t, t], [t, x, y]]);
+    Columns::any(lengths, random)
+}
+
 fn tolerance(random: &mut Random) -> u16 {
     loop {
         if let Call::Tolerance(e) = Call::any(random) {
@@ -195,11 +211,7 @@ fn list(random: &mut Random) -> Vec<Fix> {
 
 /// The columns of a list, of which two in some cases go on.
 fn columns(list: &[Fix], random: &mut Random) -> Columns {
-    let mut columns = Columns {
-        t: list.iter().map(|fix| fix.t).collect(),
-        x: list.iter().map(|fix| fix.x).collect(),
-        y: list.iter().map(|fix| fix.y).collect(),
-    };
+    let mut columns = Columns::of(list);
     let shortest = random.between(0, 5);
     let mut more = || random.between(0, 9) as usize;
     let (one, other) = (more(), more());

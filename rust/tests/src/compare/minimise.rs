@@ -3,8 +3,9 @@
 
 use std::ops::Range;
 
-use super::{Case, Columns, Operation};
+use super::{Case, Operation};
 use crate::cases::Random;
+use crate::columns::Columns;
 use crate::plain::crossing::Question;
 use crate::plain::record_length;
 
@@ -48,9 +49,11 @@ impl Search<'_> {
     /// Every way to make it smaller, once. Says whether one did.
     fn pass(&mut self) -> bool {
         let before = self.case.clone();
+        self.shorten(Case::fixes_read, Case::without_fixes_and_rows);
         self.shorten(Case::fixes, Case::without_fixes);
         self.shorten(Case::rows, Case::without_rows_and_output);
         self.shorten(Case::rows, Case::without_rows);
+        self.shorten_columns();
         self.shorten(Case::listed, Case::without_listed);
         self.shorten(Case::rest, Case::without_rest);
         self.earlier();
@@ -72,6 +75,22 @@ impl Search<'_> {
             }
             many /= 2;
         }
+    }
+
+    /// Leaves out parts of each column that is to be filled, alone.
+    fn shorten_columns(&mut self) {
+        self.shorten(
+            |case| case.filled().map_or(0, |columns| columns.t.len()),
+            |case, range| case.with_columns(|columns| cut(&mut columns.t, &range)),
+        );
+        self.shorten(
+            |case| case.filled().map_or(0, |columns| columns.x.len()),
+            |case, range| case.with_columns(|columns| cut(&mut columns.x, &range)),
+        );
+        self.shorten(
+            |case| case.filled().map_or(0, |columns| columns.y.len()),
+            |case, range| case.with_columns(|columns| cut(&mut columns.y, &range)),
+        );
     }
 
     /// Moves each fix and all that is later, the asked seconds too, closer to the time before it, or to 0.
@@ -121,16 +140,33 @@ impl Search<'_> {
 const HEAD: usize = 10;
 
 impl Case {
-    fn columns(&self) -> Option<&Columns> {
+    /// The columns that are written; then the buffer is the output, and holds no record.
+    fn written(&self) -> Option<&Columns> {
         match &self.operation {
             Operation::Write(columns) => Some(columns),
             _ => None,
         }
     }
 
+    /// The columns that a record is read into.
+    fn filled(&self) -> Option<&Columns> {
+        match &self.operation {
+            Operation::ReadAll(columns) => Some(columns),
+            _ => None,
+        }
+    }
+
+    fn with_columns(&self, change: impl FnOnce(&mut Columns)) -> Case {
+        let mut case = self.clone();
+        if let Operation::Write(columns) | Operation::ReadAll(columns) = &mut case.operation {
+            change(columns);
+        }
+        case
+    }
+
     /// How many fixes the buffer has in full, if it holds a record, damaged or not.
     fn fixes(&self) -> usize {
-        if self.columns().is_some() || self.buffer.len() < HEAD {
+        if self.written().is_some() || self.buffer.len() < HEAD {
             return 0;
         }
         let count = u16::from_le_bytes([self.buffer[8], self.buffer[9]]);
@@ -150,6 +186,16 @@ impl Case {
         case
     }
 
+    /// The same, if they are read into columns.
+    fn fixes_read(&self) -> usize {
+        self.filled().map_or(0, |_| self.fixes())
+    }
+
+    /// So that a column is as much too short, or too long, as it was.
+    fn without_fixes_and_rows(&self, range: Range<usize>) -> Case {
+        self.without_fixes(range.clone()).without_rows(range)
+    }
+
     fn array<const N: usize>(&self, at: usize) -> [u8; N] {
         let bytes = &self.buffer[at..at + N];
         bytes.try_into().expect("it has that length")
@@ -157,21 +203,16 @@ impl Case {
 
     /// How many rows the writer's longest column has.
     fn rows(&self) -> usize {
-        let longest = |columns: &Columns| {
-            let Columns { t, x, y } = columns;
-            t.len().max(x.len()).max(y.len())
-        };
-        self.columns().map_or(0, longest)
+        let lengths = self.written().map_or([0; 3], Columns::lengths);
+        lengths.into_iter().max().unwrap_or(0)
     }
 
     fn without_rows(&self, range: Range<usize>) -> Case {
-        let mut case = self.clone();
-        if let Operation::Write(Columns { t, x, y }) = &mut case.operation {
-            cut(t, &range);
-            cut(x, &range);
-            cut(y, &range);
-        }
-        case
+        self.with_columns(|columns| {
+            cut(&mut columns.t, &range);
+            cut(&mut columns.x, &range);
+            cut(&mut columns.y, &range);
+        })
     }
 
     /// So that an output is as much too short, or too long, as it was.
@@ -203,7 +244,7 @@ impl Case {
 
     /// Where the bytes begin that are no head and no fix in full: of an output, all.
     fn rest_from(&self) -> usize {
-        if self.columns().is_some() || self.buffer.len() < HEAD {
+        if self.written().is_some() || self.buffer.len() < HEAD {
             return 0;
         }
         record_length(self.fixes())
@@ -223,7 +264,7 @@ impl Case {
     /// The times of the writer's column or of the buffer's fixes.
     fn times(&self) -> Vec<u32> {
         let time = |k| u32::from_le_bytes(self.array(record_length(k)));
-        match self.columns() {
+        match self.written() {
             Some(columns) => columns.t.clone(),
             None => (0..self.fixes()).map(time).collect(),
         }
@@ -368,9 +409,12 @@ impl Case {
         match &mut self.operation {
             Operation::Check | Operation::List => {}
             Operation::Read(positions) => positions.iter_mut().for_each(|n| visit(n, change)),
+            Operation::ReadAll(Columns { t, x, y }) => {
+                t.iter_mut().for_each(|n| visit(n, change));
+                x.iter_mut().chain(y).for_each(|n| visit(n, change));
+            }
             Operation::Write(Columns { x, y, .. }) => {
-                let all = x.iter_mut().chain(y);
-                all.for_each(|n| visit(n, change));
+                x.iter_mut().chain(y).for_each(|n| visit(n, change));
             }
             Operation::Age(n) | Operation::Days(n) => visit(n, change),
             Operation::Run(calls) => calls.iter_mut().for_each(|n| visit(n, change)),

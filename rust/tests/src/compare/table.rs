@@ -1,15 +1,18 @@
 //! How often each operation met each refusal.
 
+use std::cmp::Ordering;
+use std::collections::BTreeMap;
 use std::fmt;
 
 use super::{Case, Crossed, Operation, Reply};
 use crate::plain;
 
 /// The operations, and what each can be refused for besides checks 1 to 9; the writer makes only some of those. The
-/// reader and the list of agings tell no refusal, so they are counted by what the checks say of their record.
-const OPERATIONS: [(&str, &[usize]); 10] = [
+/// listing tells its refusal in its text, so it is counted by what the checks say of its record.
+const OPERATIONS: [(&str, &[usize]); 11] = [
     ("check", &[]),
     ("read", &[]),
+    ("columns", &[]),
     ("write", &[15]),
     ("list", &[]),
     ("age", &[10]),
@@ -27,23 +30,62 @@ const ENOUGH: usize = 20_000;
 pub struct Table {
     /// by refusal, 0 for none, and operation
     met: [[usize; OPERATIONS.len()]; 16],
-    yes: usize,
-    no: usize,
+    said: BTreeMap<&'static str, usize>,
 }
+
+/// What answers that aren't refusals may say, or what they may be given to, each by its name.
+const SAID: [(&str, &[&str]); 3] = [
+    ("crossings", &["yes", "no"]),
+    ("lists", &["with calls turned away", "with none"]),
+    (
+        "columns",
+        &["empty", "too short", "just enough", "longer", "unequal"],
+    ),
+];
 
 fn column(operation: &Operation) -> usize {
     match operation {
         Operation::Check => 0,
         Operation::Read(_) => 1,
-        Operation::Write(_) => 2,
-        Operation::List => 3,
-        Operation::Age(_) => 4,
-        Operation::Days(_) => 5,
-        Operation::Run(_) => 6,
-        Operation::Place(_) => 7,
-        Operation::Crosses(_) => 8,
-        Operation::CrossesAfter(..) => 9,
+        Operation::ReadAll(_) => 2,
+        Operation::Write(_) => 3,
+        Operation::List => 4,
+        Operation::Age(_) => 5,
+        Operation::Days(_) => 6,
+        Operation::Run(_) => 7,
+        Operation::Place(_) => 8,
+        Operation::Crosses(_) => 9,
+        Operation::CrossesAfter(..) => 10,
     }
+}
+
+fn said(case: &Case, reply: &Reply) -> Vec<&'static str> {
+    match (&case.operation, reply) {
+        (_, Reply::Crossing(Crossed::Yes(_))) => vec!["yes"],
+        (_, Reply::Crossing(Crossed::No)) => vec!["no"],
+        (_, Reply::Run(run)) if run.refusal == 0 => match run.turned_away {
+            0 => vec!["with none"],
+            _ => vec!["with calls turned away"],
+        },
+        (Operation::ReadAll(columns), Reply::Answer(answer)) if answer.refusal == 0 => {
+            said_of_columns(columns.lengths(), answer.value as usize)
+        }
+        _ => Vec::new(),
+    }
+}
+
+fn said_of_columns(lengths: [usize; 3], count: usize) -> Vec<&'static str> {
+    let one = |length: usize| match length.cmp(&count) {
+        _ if length == 0 => "empty",
+        Ordering::Less => "too short",
+        Ordering::Equal => "just enough",
+        Ordering::Greater => "longer",
+    };
+    let mut said: Vec<&str> = lengths.map(one).into();
+    if lengths != [lengths[0]; 3] {
+        said.push("unequal");
+    }
+    said
 }
 
 /// Whether document 01 has this refusal among the operation's.
@@ -62,10 +104,8 @@ impl Table {
         let checked = || plain::read(&case.buffer).err().unwrap_or(0).into();
         let refusal = reply.refusal().unwrap_or_else(checked);
         self.met[refusal as usize][column(&case.operation)] += 1;
-        match reply {
-            Reply::Crossing(Crossed::Yes(_)) => self.yes += 1,
-            Reply::Crossing(Crossed::No) => self.no += 1,
-            _ => {}
+        for what in said(case, reply) {
+            *self.said.entry(what).or_default() += 1;
         }
     }
 
@@ -85,10 +125,9 @@ impl Table {
             let unmet = (0..self.met.len()).filter(unmet);
             missing.extend(unmet.map(|refusal| format!("{name} with refusal {refusal}")));
         }
-        for (many, answer) in [(self.yes, "yes"), (self.no, "no")] {
-            if many == 0 {
-                missing.push(format!("a crossing answered {answer}"));
-            }
+        for (group, all) in SAID {
+            let unmet = all.iter().filter(|what| !self.said.contains_key(*what));
+            missing.extend(unmet.map(|what| format!("{group}: {what}")));
         }
         missing
     }
@@ -126,7 +165,14 @@ impl fmt::Display for Table {
             write!(f, "{all:>8}")?;
         }
         writeln!(f, "{:>9}", self.cases())?;
-        writeln!(f, "crossings: {} yes, {} no", self.yes, self.no)?;
+        for (group, all) in SAID {
+            let met = |what| self.said.get(what).copied().unwrap_or(0);
+            let shown: Vec<String> = all
+                .iter()
+                .map(|&what| format!("{} {what}", met(what)))
+                .collect();
+            writeln!(f, "{group}: {}", shown.join(", "))?;
+        }
         write!(f, "{} cases, 0 differences", self.cases())
     }
 }

@@ -53,7 +53,7 @@ impl Drawn {
         let head = trails::check(&bytes).map_err(Failure::refused(&file))?;
         let fixes = trails::fixes(&bytes).map_err(Failure::refused(&file))?;
         Ok(Drawn {
-            fixes: fixes.collect(),
+            fixes,
             mark: head.mark,
             bytes,
             file,
