@@ -31,6 +31,33 @@ static void aged(const char *what, struct trails_answer answer) {
         printf("%s: %u fixes measured\n", what, (unsigned)answer.value);
 }
 
+/* Makes a list of agings, and prints what became of it. */
+static void run(const uint32_t *calls, size_t count) {
+    struct trails_run done = trails_run(record, sizeof record, calls, count);
+    if (done.refusal != TRAILS_ACCEPTED)
+        printf("list: refused %u\n", (unsigned)done.refusal);
+    else
+        printf("list: %zu of %zu calls turned away\n", done.turned_away, count);
+}
+
+/* Reads all fixes, and prints the longest leg, the first of equals. */
+static void longest(void) {
+    uint32_t t[FIXES];
+    int16_t x[FIXES], y[FIXES];
+    struct trails_answer read =
+        trails_read_all(record, sizeof record, t, FIXES, x, FIXES, y, FIXES);
+    uint32_t end = 1;
+    if (read.refusal != TRAILS_ACCEPTED || read.value < 2) {
+        printf("no leg\n");
+        return;
+    }
+    for (uint32_t k = 2; k < read.value; k++)
+        if (t[k] - t[k - 1] > t[end] - t[end - 1])
+            end = k;
+    printf("longest of %u legs: %u s, from %d, %d to %d, %d\n", (unsigned)read.value - 1,
+           (unsigned)(t[end] - t[end - 1]), x[end - 1], y[end - 1], x[end], y[end]);
+}
+
 static void where(uint32_t second, uint16_t thousandths) {
     struct trails_place p = trails_place(record, sizeof record, second, thousandths);
     if (p.refusal != TRAILS_ACCEPTED)
@@ -63,6 +90,7 @@ int main(void) {
         return 1;
     }
     list();
+    longest();
     where(1015, 500);
     packed(1000, 1080);
     packed(1000, 1050);
@@ -74,8 +102,9 @@ int main(void) {
     list();
 
     /* tolerance 12, a refused one, and 7 days, which is tolerance 25 */
-    trails_run(record, sizeof record, calls, sizeof calls / sizeof calls[0]);
+    run(calls, sizeof calls / sizeof calls[0]);
     list();
+    longest();
     where(1015, 500);
     packed(1000, 1080);
     return 0;

@@ -26,8 +26,7 @@
  *
  * REFUSALS. A refusal is one of the numbers below, and 0 is none. A call makes
  * its checks in this order, each over the whole record before the next, and
- * answers the first that fails. A refused call leaves all buffers as they were;
- * of trails_crosses_after, which is many calls in one, each of them does.
+ * answers the first that fails. A refused call leaves all buffers as they were.
  */
 #ifndef TRAILS_H
 #define TRAILS_H
@@ -74,8 +73,10 @@ struct trails_head {
     uint32_t mark;
 };
 
-/* found is 1 and the fix follows, or everything is 0: none is left. */
+/* found is 1 and the fix follows, or everything is 0: none is left. Where refusal
+ * isn't 0, all else is 0. */
 struct trails_step {
+    uint32_t refusal;
     uint32_t found;
     uint32_t t; /* seconds */
     int32_t x;  /* centimetres */
@@ -86,6 +87,13 @@ struct trails_step {
 struct trails_answer {
     uint32_t refusal;
     uint32_t value;
+};
+
+/* What became of a list of agings. Where refusal isn't 0, nothing was done, and
+ * turned_away is 0. */
+struct trails_run {
+    uint32_t refusal;
+    size_t turned_away; /* how many of the list's calls were refused */
 };
 
 /* Where a cart was: x / denominator and y / denominator, and the same rounded to
@@ -114,12 +122,19 @@ struct trails_crossing {
  * fails, refusal is 0, and count and mark are the record's. */
 struct trails_head trails_check(const uint8_t *record, size_t lent);
 
-/* The fix at a position, counted from 0. Of a record that trails_check accepts,
- * positions 0 to count - 1 have one, and at each later position none is left.
- * It makes no check: of other bytes it tells what would stand there if they were
- * a record, at positions below the count field whose 8 bytes are all lent, and
- * that none is left at all others. So call trails_check first. */
+/* The fix at a position, counted from 0. Makes checks 1 to 9. Where none fails,
+ * positions 0 to count - 1 have a fix, and at each later position none is left.
+ * Each call checks the whole record; trails_read_all checks once for all fixes. */
 struct trails_step trails_read(const uint8_t *record, size_t lent, size_t position);
+
+/* Reads all fixes of the record: the inverse of trails_write. Makes checks 1 to 9.
+ * Where none fails, value is the record's count, and fix k goes to t[k], x[k] and
+ * y[k]. Each column, for itself, gets as many as it holds, none if its number is
+ * 0, and its later elements are as before. */
+struct trails_answer trails_read_all(const uint8_t *record, size_t lent,
+                                     uint32_t *t, size_t t_count,
+                                     int16_t *x, size_t x_count,
+                                     int16_t *y, size_t y_count);
 
 /* Writes the record of a list of fixes, marked never thinned. Fix k of the list
  * is t[k], x[k], y[k]; the list is as long as the shortest of the three columns.
@@ -196,18 +211,23 @@ struct trails_crossing trails_crosses(const uint8_t *record, size_t lent,
 
 /* Makes all agings of a list, one after the other. A call below 65,536 is
  * trails_age at that tolerance, and one from there on is trails_age_by_days at
- * call % 65,536 days. Refused ones change nothing, and those after them are made.
- * Each byte afterwards is what these calls give one by one. STACK: as trails_age. */
-void trails_run(uint8_t *record, size_t lent,
-                const uint32_t *calls, size_t call_count);
+ * call % 65,536 days. Makes checks 1 to 9. Where none fails, each byte afterwards
+ * is what these calls give one by one: those whose tolerance is above 32,000 are
+ * turned away and change nothing, and the calls after them are made. turned_away
+ * is how many they were. STACK: as trails_age. */
+struct trails_run trails_run(uint8_t *record, size_t lent,
+                             const uint32_t *calls, size_t call_count);
 
-/* Makes all agings of a list, as trails_run does, and then asks the crossing. The
- * answer, and each byte afterwards, are what these calls and trails_crosses give
- * one by one, so where the crossing is refused for its window or its box, the
- * agings are made nevertheless. STACK: as trails_age.
+/* Makes all agings of a list, and then asks the crossing of what is left. Makes
+ * checks 1 to 9, 13 and 14, before any aging: thinning keeps the first fix and the
+ * last, so afterwards they would say the same. Where none fails, each byte is what
+ * trails_run leaves, and the answer is what trails_crosses then gives. STACK: as
+ * trails_age.
  * Of a record marked TRAILS_NEVER, the original, let E be the greatest tolerance
  * applied, or 0 if none was. Then the fixes left are those that thinning the
  * original once at E keeps, or all where none was applied; and
+ *   - at every time from the first fix to the last, fractions of seconds too, the
+ *     trail left is at most E from the original;
  *   - a yes means that at its time the original is at most E from the box;
  *   - a no means that whenever the original is in the box within the window, its
  *     x is at most E from left or right, or its y from bottom or top. */

@@ -1,0 +1,127 @@
+//! Agings of a buffer, by the proved functions and by the plain version at once.
+
+use crate::cases::{Draft, Random};
+use crate::expected;
+use crate::interface::{self, Answer};
+use crate::plain::lists::Call;
+use crate::plain::place::{Place, Time, FINEST};
+use crate::plain::{read, record_length, Fix, Trail, NEVER};
+
+impl Call {
+    /// Any call: small tolerances and the limits are likelier than others, and some are refused.
+    pub fn any(random: &mut Random) -> Call {
+        let least = random.between(0, 12) as u16;
+        let low = random.between(0, 300) as u16;
+        let high = random.between(0, 20_000) as u16;
+        let any = random.between(0, 65_535) as u16;
+        let edge = random.pick(&[0, 1, 32_000, 32_001, 65_535]);
+        let days = random.pick(&[0, 1, 2, 6, 7, 29, 30, 89, 90, 65_535]);
+        random.pick(&[
+            Call::Tolerance(least),
+            Call::Tolerance(low),
+            Call::Tolerance(high),
+            Call::Tolerance(edge),
+            Call::Tolerance(any),
+            Call::Days(days),
+            Call::Days(any),
+        ])
+    }
+
+    /// The call as the interface's lists have it: below 65,536 a tolerance, and from there on days, whatever is above
+    /// 16 bits.
+    pub fn number(self, random: &mut Random) -> u32 {
+        let some = random.between(1, 65_535) as u32;
+        match self {
+            Call::Tolerance(e) => e.into(),
+            Call::Days(days) => (random.pick(&[1, 2, some, 65_535]) << 16) + u32::from(days),
+        }
+    }
+
+    fn proved(self, buffer: &mut [u8]) -> Answer {
+        match self {
+            Call::Tolerance(e) => interface::age(buffer, e),
+            Call::Days(days) => interface::age_by_days(buffer, days),
+        }
+    }
+}
+
+/// A list of calls, which may be empty.
+pub fn some_calls(random: &mut Random) -> Vec<Call> {
+    let many = random.between(0, 8);
+    (0..many).map(|_| Call::any(random)).collect()
+}
+
+/// A lent buffer, and what to call it if a call on it goes wrong.
+pub struct Buffer {
+    pub name: String,
+    pub bytes: Vec<u8>,
+}
+
+impl Buffer {
+    pub fn new(name: String, bytes: Vec<u8>) -> Buffer {
+        Buffer { name, bytes }
+    }
+
+    /// A buffer that begins with the record of these fixes and goes on for some bytes.
+    pub fn of(name: String, fixes: &[Fix], mark: u16, random: &mut Random) -> Buffer {
+        let more = random.between(0, 20) as usize;
+        let draft = Draft::new(fixes.to_vec(), mark, random.bytes(more));
+        Buffer::new(name, draft.bytes())
+    }
+
+    pub fn never_thinned(name: String, fixes: &[Fix], random: &mut Random) -> Buffer {
+        Buffer::of(name, fixes, NEVER, random)
+    }
+
+    /// The record, which must be accepted.
+    pub fn trail(&self) -> Trail {
+        read(&self.bytes).unwrap_or_else(|number| panic!("{}: refused {number}", self.name))
+    }
+
+    /// Makes the call, and holds its answer and every byte to the plain version's.
+    pub fn age(&mut self, call: Call) -> Answer {
+        let before = self.bytes.clone();
+        let mut plain = before.clone();
+        let expected = expected::aging(&mut plain, call);
+        let answer = call.proved(&mut self.bytes);
+        let name = format!("{}, {call:?}", self.name);
+        assert_eq!(answer, expected, "{name}");
+        assert!(self.bytes == plain, "{name}: other bytes");
+        // what document 01 says of each call's bytes, whatever the plain version does
+        let stays = match answer.refusal {
+            0 => record_length(self.trail().fixes.len()),
+            _ => 0,
+        };
+        assert!(self.bytes[stays..] == before[stays..], "{name}: the tail");
+        answer
+    }
+}
+
+/// A time for each fix of a trail, and as many more between its first fix and its last.
+fn times(fixes: &[Fix], random: &mut Random) -> Vec<Time> {
+    let (first, last) = (fixes[0].t, fixes[fixes.len() - 1].t);
+    let fix = |fix: &Fix| Time {
+        p: fix.t.into(),
+        q: 1,
+    };
+    let between = |random: &mut Random| {
+        let q = random.between(1, FINEST as i64);
+        let p = random.between(q * i64::from(first), q * i64::from(last));
+        Time {
+            p: p.into(),
+            q: q.into(),
+        }
+    };
+    let mut all: Vec<Time> = fixes.iter().map(fix).collect();
+    all.extend((0..fixes.len()).map(|_| between(random)));
+    all
+}
+
+/// The bound: at each of many times the aged trail is at most E from the original.
+pub fn stays_near(original: &[Fix], aged: &[Fix], e: u16, name: &str, random: &mut Random) {
+    for time in times(original, random) {
+        let was = Place::at(original, time);
+        let is = Place::at(aged, time);
+        assert!(was.near(&is, e), "{name}, at {time:?}: {was:?} {is:?}");
+    }
+}

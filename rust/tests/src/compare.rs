@@ -1,0 +1,239 @@
+//! One operation on one lent buffer, by the proved functions and by the plain version: what each answers, and what is
+//! lent afterwards. `draw` draws such cases, `minimise` makes one smaller, and `table` counts what was met.
+
+pub mod draw;
+pub mod minimise;
+pub mod table;
+
+use crate::cases::{Random, Settings};
+use crate::columns::Columns;
+use crate::expected;
+use crate::interface::{self, Answer, Crossing, Head, Place, Run, Step, LONGEST_TEXT};
+use crate::plain;
+use crate::plain::crossing::{self, Question};
+use crate::plain::lists::{self, Call};
+use crate::plain::place::Time;
+use crate::questions::Moment;
+
+/// An operation of the interface, with all that it is given besides the buffer.
+#[derive(Clone, Debug, PartialEq, Eq)]
+pub enum Operation {
+    Check,
+    /// the positions to read one after the other
+    Read(Vec<usize>),
+    /// the columns to fill, with what is in them beforehand
+    ReadAll(Columns),
+    /// the buffer is the output
+    Write(Columns),
+    List,
+    Age(u16),
+    Days(u16),
+    Run(Vec<u32>),
+    Place(Moment),
+    Crosses(Question),
+    CrossesAfter(Vec<u32>, Question),
+}
+
+#[derive(Clone, Debug, PartialEq, Eq)]
+pub struct Case {
+    pub buffer: Vec<u8>,
+    pub operation: Operation,
+}
+
+/// What an operation answers.
+#[derive(Debug, PartialEq)]
+pub enum Reply {
+    Head(Head),
+    Steps(Vec<Step>),
+    Answer(Answer),
+    Length(usize),
+    Run(Run),
+    Place(Place),
+    Crossing(Crossed),
+}
+
+impl Reply {
+    /// The refusal that it tells, 0 for none. The listing tells it in its text.
+    fn refusal(&self) -> Option<u32> {
+        match self {
+            Reply::Head(head) => Some(head.refusal),
+            Reply::Steps(steps) => steps.first().map(|step| step.refusal),
+            Reply::Answer(answer) => Some(answer.refusal),
+            Reply::Place(place) => Some(place.refusal),
+            Reply::Crossing(Crossed::Refused(number)) => Some(*number),
+            Reply::Crossing(_) => Some(0),
+            Reply::Run(run) => Some(run.refusal),
+            Reply::Length(_) => None,
+        }
+    }
+}
+
+/// An answer to the crossing question. Two times are equal by value, since the form of the fraction is free.
+#[derive(Clone, Copy, Debug)]
+pub enum Crossed {
+    Refused(u32),
+    No,
+    Yes(Time),
+    /// what no answer may be: a denominator that isn't from 1 to 32,000, or a no or a refusal that carries something
+    Never(Crossing),
+}
+
+impl PartialEq for Crossed {
+    fn eq(&self, other: &Crossed) -> bool {
+        match (self, other) {
+            (Crossed::Refused(one), Crossed::Refused(other)) => one == other,
+            (Crossed::No, Crossed::No) => true,
+            (Crossed::Yes(one), Crossed::Yes(other)) => one.order(other).is_eq(),
+            _ => false,
+        }
+    }
+}
+
+impl From<Crossing> for Crossed {
+    fn from(answer: Crossing) -> Crossed {
+        let Crossing {
+            refusal,
+            crosses,
+            numerator,
+            denominator,
+        } = answer;
+        match (refusal, crosses, numerator, denominator) {
+            (1.., 0, 0, 0) => Crossed::Refused(refusal),
+            (0, 0, 0, 0) => Crossed::No,
+            (0, 1, _, 1..=32_000) => Crossed::Yes(Time {
+                p: numerator.into(),
+                q: denominator.into(),
+            }),
+            _ => Crossed::Never(answer),
+        }
+    }
+}
+
+impl From<Result<Option<Time>, u8>> for Crossed {
+    fn from(result: Result<Option<Time>, u8>) -> Crossed {
+        match result {
+            Err(number) => Crossed::Refused(number.into()),
+            Ok(None) => Crossed::No,
+            Ok(Some(time)) => Crossed::Yes(time),
+        }
+    }
+}
+
+/// What an operation answered, and all that was lent, as it is afterwards.
+#[derive(Debug, PartialEq)]
+pub struct Outcome {
+    pub reply: Reply,
+    pub after: Case,
+    /// the listing's output; of other operations empty
+    pub text: Vec<u8>,
+}
+
+/// What a listing's output has in it beforehand.
+const BLANK: u8 = 0x5A;
+
+fn blank() -> Box<[u8; LONGEST_TEXT]> {
+    let bytes = vec![BLANK; LONGEST_TEXT].into_boxed_slice();
+    bytes.try_into().expect("it has that length")
+}
+
+/// By the functions of the C interface.
+pub fn proved(case: &Case) -> Outcome {
+    let mut after = case.clone();
+    let mut text = Vec::new();
+    let buffer = &mut after.buffer;
+    let reply = match &mut after.operation {
+        Operation::Check => Reply::Head(interface::check(buffer)),
+        Operation::Read(positions) => {
+            let step = |&position: &usize| interface::read(buffer, position);
+            Reply::Steps(positions.iter().map(step).collect())
+        }
+        Operation::ReadAll(columns) => Reply::Answer(interface::read_all(buffer, columns)),
+        Operation::Write(Columns { t, x, y }) => Reply::Answer(interface::write(t, x, y, buffer)),
+        Operation::List => {
+            let mut output = blank();
+            let length = interface::list(buffer, &mut output);
+            text = (output as Box<[u8]>).into_vec();
+            Reply::Length(length)
+        }
+        Operation::Age(e) => Reply::Answer(interface::age(buffer, *e)),
+        Operation::Days(days) => Reply::Answer(interface::age_by_days(buffer, *days)),
+        Operation::Run(calls) => Reply::Run(interface::run(buffer, calls)),
+        Operation::Place(Moment {
+            second,
+            thousandths,
+        }) => Reply::Place(interface::place(buffer, *second, *thousandths)),
+        Operation::Crosses(question) => {
+            Reply::Crossing(interface::crosses(buffer, question).into())
+        }
+        Operation::CrossesAfter(calls, question) => {
+            Reply::Crossing(interface::crosses_after(buffer, calls, question).into())
+        }
+    };
+    Outcome { reply, after, text }
+}
+
+/// By the plain version.
+pub fn plain(case: &Case) -> Outcome {
+    let mut after = case.clone();
+    let mut text = Vec::new();
+    let buffer = &mut after.buffer;
+    let reply = match &mut after.operation {
+        Operation::Check => Reply::Head(expected::check(buffer)),
+        Operation::Read(positions) => {
+            let step = |&position: &usize| expected::read(buffer, position);
+            Reply::Steps(positions.iter().map(step).collect())
+        }
+        Operation::ReadAll(columns) => Reply::Answer(expected::read_all(buffer, columns)),
+        Operation::Write(columns) => Reply::Answer(expected::write(&columns.fixes(), buffer)),
+        Operation::List => {
+            let listing = plain::listing(buffer).into_bytes();
+            text = blank().to_vec();
+            text[..listing.len()].copy_from_slice(&listing);
+            Reply::Length(listing.len())
+        }
+        Operation::Age(e) => Reply::Answer(expected::aging(buffer, Call::Tolerance(*e))),
+        Operation::Days(days) => Reply::Answer(expected::aging(buffer, Call::Days(*days))),
+        Operation::Run(calls) => Reply::Run(expected::run(buffer, calls)),
+        Operation::Place(asked) => {
+            Reply::Place(expected::place(buffer, asked.second, asked.thousandths))
+        }
+        Operation::Crosses(question) => Reply::Crossing(crossing::crosses(buffer, question).into()),
+        Operation::CrossesAfter(calls, question) => {
+            let calls = Call::all_of(calls);
+            Reply::Crossing(lists::crosses_after(buffer, &calls, question).into())
+        }
+    };
+    Outcome { reply, after, text }
+}
+
+/// The two that are compared. Both are given, so that a test can put a faulty one in place of either.
+#[derive(Clone, Copy)]
+pub struct Sides<'a> {
+    pub proved: &'a dyn Fn(&Case) -> Outcome,
+    pub plain: &'a dyn Fn(&Case) -> Outcome,
+}
+
+impl Sides<'_> {
+    /// The outcome that both have, or none if they differ.
+    fn agreed(&self, case: &Case) -> Option<Outcome> {
+        let outcome = (self.plain)(case);
+        ((self.proved)(case) == outcome).then_some(outcome)
+    }
+}
+
+/// Draws cases until all are tried or one shows a difference, which is given back as small as it can be made.
+pub fn run(settings: Settings, sides: Sides) -> Result<table::Table, Box<Case>> {
+    let mut random = Random::new(settings.seed);
+    let mut table = table::Table::default();
+    for _ in 0..settings.cases {
+        let case = draw::case(&mut random);
+        match sides.agreed(&case) {
+            Some(outcome) => table.count(&case, &outcome.reply),
+            None => {
+                let differs = |case: &Case| sides.agreed(case).is_none();
+                return Err(Box::new(minimise::minimised(case, &differs)));
+            }
+        }
+    }
+    Ok(table)
+}

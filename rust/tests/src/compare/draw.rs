@@ -1,0 +1,226 @@
+//! Cases for the comparison: a buffer, mostly with a small trail, and an operation that fits it or is refused.
+
+use super::{Case, Operation};
+use crate::cases::{spoil, Draft, Random};
+use crate::columns::Columns;
+use crate::plain::crossing::Question;
+use crate::plain::lists::Call;
+use crate::plain::{read, record_length, Fix, Head, MOST_FIXES, NEVER};
+use crate::questions::{Asked, Moment};
+use crate::shapes::{trail, SHAPES};
+
+pub fn case(random: &mut Random) -> Case {
+    let buffer = buffer(random);
+    let operation = match random.between(0, 10) {
+        0 => Operation::Check,
+        1 => Operation::Read(positions(random)),
+        2 => return writing(random),
+        3 => Operation::List,
+        4 => Operation::Age(tolerance(random)),
+        5 => Operation::Days(days(random)),
+        6 => Operation::Run(calls(random)),
+        7 => Operation::Place(asked::<Moment>(&buffer, [11, 12], random)),
+        8 => Operation::Crosses(asked::<Question>(&buffer, [13, 14], random)),
+        9 => Operation::ReadAll(lent_columns(&buffer, random)),
+        _ => {
+            let question = asked::<Question>(&buffer, [13, 14], random);
+            Operation::CrossesAfter(calls(random), question)
+        }
+    };
+    Case { buffer, operation }
+}
+
+// ---- buffers
+
+/// How many fixes: mostly few, and now and then as many as a record can have.
+fn size(random: &mut Random) -> usize {
+    let any = random.between(1, MOST_FIXES as i64);
+    let n = match random.between(0, 599) {
+        0..=3 => random.pick(&[any, any, 4_095, 4_096]),
+        4..=33 => random.between(1, 400),
+        34..=233 => random.between(1, 6),
+        _ => random.between(1, 60),
+    };
+    n as usize
+}
+
+fn fixes(n: usize, random: &mut Random) -> Vec<Fix> {
+    let shape = random.pick(&SHAPES);
+    trail(shape, n, random)
+}
+
+/// A record of this many fixes with any mark, half of the time with bytes after it.
+fn accepted(n: usize, random: &mut Random) -> Draft {
+    let foreign = random.between(0, 32_000) as u16;
+    let low = random.between(0, 300) as u16;
+    let mark = random.pick(&[NEVER, NEVER, 0, 32_000, low, foreign]);
+    let after = random.between(-20, 20).max(0) as usize;
+    let fixes = fixes(n, random);
+    let tail = random.bytes(after);
+    Draft::new(fixes, mark, tail)
+}
+
+fn buffer(random: &mut Random) -> Vec<u8> {
+    let n = size(random);
+    match random.between(0, 99) {
+        0..=59 => accepted(n, random).bytes(),
+        60..=89 => damaged(n, random).bytes(),
+        90..=94 => turned(accepted(n, random).bytes(), random),
+        95..=97 => {
+            let size = random.between(0, 60) as usize;
+            random.bytes(size)
+        }
+        _ => {
+            let n = random.between(1, 6) as usize;
+            let mut noise = Draft::new(Vec::new(), NEVER, random.bytes(record_length(n)));
+            noise.head = Head::of(NEVER, n);
+            noise.bytes()
+        }
+    }
+}
+
+/// A record with one fault or some, made from the latest check's to the first's.
+fn damaged(n: usize, random: &mut Random) -> Draft {
+    let mut draft = accepted(n, random);
+    let most = random.pick(&[1, 1, 1, 2, 3]);
+    // a lone fix has nobody to be out of order with
+    let last = if n == 1 { 7 } else { 9 };
+    let mut faults: Vec<u8> = (0..most).map(|_| random.between(1, last) as u8).collect();
+    faults.sort_by(|a, b| b.cmp(a));
+    faults.dedup();
+    for fault in faults {
+        draft.spoil(fault, random);
+    }
+    draft
+}
+
+/// A bit or a whole byte is another one, in the head as likely as in all the rest.
+fn turned(mut bytes: Vec<u8>, random: &mut Random) -> Vec<u8> {
+    let head = random.between(0, 9);
+    let any = random.between(0, bytes.len() as i64 - 1);
+    let at = random.pick(&[head, any]) as usize;
+    let bit = 1 << random.between(0, 7);
+    let byte = random.between(1, 255) as u8;
+    bytes[at] ^= random.pick(&[bit, byte]);
+    bytes
+}
+
+// ---- what operations are given
+
+fn positions(random: &mut Random) -> Vec<usize> {
+    let many = random.between(1, 6);
+    let mut position = |_| {
+        let near = random.between(0, 8) as usize;
+        let any = random.between(0, 70) as usize;
+        let far = 1 << random.between(7, i64::from(usize::BITS) - 1);
+        let last = random.pick(&[4_095, 4_096, 65_535, usize::MAX / 8, usize::MAX]);
+        random.pick(&[near, near, near, any, any, far, last])
+    };
+    (0..many).map(&mut position).collect()
+}
+
+/// Columns to read into: each as long as the record has fixes, shorter, longer or of no length, half of the time all of
+/// one length.
+fn lent_columns(buffer: &[u8], random: &mut Random) -> Columns {
+    let count = read(buffer).map_or(6, |trail| trail.fixes.len()) as i64;
+    let mut length = || {
+        let less = random.between(0, count - 1);
+        let more = count + random.between(1, 9);
+        random.pick(&[0, less, count - 1, count, count, count + 1, more]) as usize
+    };
+    let (t, x, y) = (length(), length(), length());
+    let lengths = random.pick(&[[t, t, t], [t, x, y]]);
+    Columns::any(lengths, random)
+}
+
+fn tolerance(random: &mut Random) -> u16 {
+    loop {
+        if let Call::Tolerance(e) = Call::any(random) {
+            return e;
+        }
+    }
+}
+
+fn days(random: &mut Random) -> u16 {
+    loop {
+        if let Call::Days(days) = Call::any(random) {
+            return days;
+        }
+    }
+}
+
+/// A list of agings, which may be empty and in few cases is long.
+fn calls(random: &mut Random) -> Vec<u32> {
+    let most = random.pick(&[3, 8, 8, 8, 40]);
+    let many = random.between(0, most);
+    (0..many)
+        .map(|_| Call::any(random).number(random))
+        .collect()
+}
+
+/// A question of which three in four are good, and others have one of these faults or both.
+fn asked<Q: Asked>(buffer: &[u8], faults: [u8; 2], random: &mut Random) -> Q {
+    let [one, other] = faults;
+    let some: &[u8] = match random.between(0, 15) {
+        0 | 1 => &[one],
+        2 | 3 => &[other],
+        // the later check's fault first
+        4 => &[other, one],
+        _ => &[],
+    };
+    Q::spoiled(buffer, some, random)
+}
+
+// ---- the writer
+
+/// A list to write, into an output that in two of five cases is too short.
+fn writing(random: &mut Random) -> Case {
+    let list = list(random);
+    let length = record_length(list.len()) as i64;
+    let short = random.between(0, length - 1);
+    let long = random.between(length, length + 40);
+    let bytes = random.pick(&[length, long, long, short, length - 1]);
+    Case {
+        buffer: random.bytes(bytes as usize),
+        operation: Operation::Write(columns(&list, random)),
+    }
+}
+
+/// A list of fixes, good or refused by one of the checks 3, 7, 8 and 9, or some.
+fn list(random: &mut Random) -> Vec<Fix> {
+    let n = size(random).max(2);
+    let mut list = fixes(n, random);
+    match random.between(0, 19) {
+        0 => list.clear(),
+        1 if random.one_in(20) => list.resize(MOST_FIXES + 1, list[0]),
+        2..=6 => {
+            let one = random.between(7, 9) as u8;
+            let other = random.between(7, 9) as u8;
+            spoil(one.max(other), &mut list, random);
+            spoil(one.min(other), &mut list, random);
+        }
+        7 => list.truncate(1),
+        8 => {
+            list.truncate(1);
+            spoil(7, &mut list, random);
+        }
+        _ => {}
+    }
+    list
+}
+
+/// The columns of a list, of which two in some cases go on.
+fn columns(list: &[Fix], random: &mut Random) -> Columns {
+    let mut columns = Columns::of(list);
+    let shortest = random.between(0, 5);
+    let mut more = || random.between(0, 9) as usize;
+    let (one, other) = (more(), more());
+    let Columns { t, x, y } = &mut columns;
+    match shortest {
+        0 => (x.resize(x.len() + one, 5), y.resize(y.len() + other, -7)),
+        1 => (t.resize(t.len() + one, 0), y.resize(y.len() + other, 7)),
+        2 => (t.resize(t.len() + one, 9), x.resize(x.len() + other, 7)),
+        _ => ((), ()),
+    };
+    columns
+}

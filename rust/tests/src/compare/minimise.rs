@@ -1,0 +1,446 @@
+//! A case that shows something, made as small as it still shows it. The search is greedy and bounded, and what it draws
+//! is from a fixed seed, so a case is always made into the same one.
+
+use std::ops::Range;
+
+use super::{Case, Operation};
+use crate::cases::Random;
+use crate::columns::Columns;
+use crate::plain::crossing::Question;
+use crate::plain::record_length;
+
+/// How many bytes of buffers may be tried, with some more for each try.
+const EFFORT: usize = 50_000_000;
+const EACH: usize = 64;
+
+/// How often small numbers are drawn for a whole case, and how many of them it may have.
+const DRAWS: usize = 20_000;
+const FEW: usize = 40;
+
+/// The smallest case found that still fails. The one that is given must.
+pub fn minimised(case: Case, fails: &dyn Fn(&Case) -> bool) -> Case {
+    let mut search = Search {
+        case,
+        fails,
+        left: EFFORT,
+    };
+    while search.pass() {}
+    search.case
+}
+
+struct Search<'a> {
+    case: Case,
+    fails: &'a dyn Fn(&Case) -> bool,
+    left: usize,
+}
+
+impl Search<'_> {
+    /// Whether the candidate still fails; then it is the case from now on.
+    fn keep(&mut self, candidate: Case) -> bool {
+        let effort = EACH + candidate.buffer.len();
+        self.left = self.left.saturating_sub(effort);
+        let smaller = self.left > 0 && (self.fails)(&candidate);
+        if smaller {
+            self.case = candidate;
+        }
+        smaller
+    }
+
+    /// Every way to make it smaller, once. Says whether one did.
+    fn pass(&mut self) -> bool {
+        let before = self.case.clone();
+        self.shorten(Case::fixes_read, Case::without_fixes_and_rows);
+        self.shorten(Case::fixes, Case::without_fixes);
+        self.shorten(Case::rows, Case::without_rows_and_output);
+        self.shorten(Case::rows, Case::without_rows);
+        self.shorten_columns();
+        self.shorten(Case::listed, Case::without_listed);
+        self.shorten(Case::rest, Case::without_rest);
+        self.earlier();
+        self.nearer_to_0();
+        self.case != before || self.small_at_once()
+    }
+
+    /// Leaves out parts of a sequence: all, halves, and so on to single ones.
+    fn shorten(&mut self, length: fn(&Case) -> usize, without: fn(&Case, Range<usize>) -> Case) {
+        let mut many = length(&self.case);
+        while many > 0 {
+            let mut from = 0;
+            while from < length(&self.case) {
+                let to = length(&self.case).min(from + many);
+                let candidate = without(&self.case, from..to);
+                if !self.keep(candidate) {
+                    from += many;
+                }
+            }
+            many /= 2;
+        }
+    }
+
+    /// Leaves out parts of each column that is to be filled, alone.
+    fn shorten_columns(&mut self) {
+        self.shorten(
+            |case| case.filled().map_or(0, |columns| columns.t.len()),
+            |case, range| case.with_columns(|columns| cut(&mut columns.t, &range)),
+        );
+        self.shorten(
+            |case| case.filled().map_or(0, |columns| columns.x.len()),
+            |case, range| case.with_columns(|columns| cut(&mut columns.x, &range)),
+        );
+        self.shorten(
+            |case| case.filled().map_or(0, |columns| columns.y.len()),
+            |case, range| case.with_columns(|columns| cut(&mut columns.y, &range)),
+        );
+    }
+
+    /// Moves each fix and all that is later, the asked seconds too, closer to the time before it, or to 0.
+    fn earlier(&mut self) {
+        for k in 0..self.case.times().len() {
+            self.lessen(&|case| case.gap(k), &|case, gap| case.with_gap(k, gap));
+        }
+    }
+
+    /// Brings every other number closer to 0.
+    fn nearer_to_0(&mut self) {
+        for k in 0..self.case.numbers().len() {
+            self.lessen(&|case| case.numbers()[k], &|case, n| case.with(k, n));
+        }
+    }
+
+    /// Draws small numbers for many at once, which helps where only some together still fail. Says whether it did.
+    fn small_at_once(&mut self) -> bool {
+        let mut random = Random::new(0);
+        let few = self.case.numbers().len() <= FEW;
+        (0..if few { DRAWS } else { 0 }).any(|_| {
+            let candidate = self.case.small(&mut random);
+            candidate.weight() < self.case.weight() && self.keep(candidate)
+        })
+    }
+
+    /// Puts a smaller number in the place of one as long as that still fails: 0 if it may be, or else half of it, or
+    /// else three quarters, and so on.
+    fn lessen(&mut self, get: &dyn Fn(&Case) -> i128, set: &dyn Fn(&Case, i128) -> Case) {
+        loop {
+            let n = get(&self.case);
+            let steps = std::iter::successors(Some(n), |step| Some(step / 2));
+            let mut steps = steps.take_while(|&step| step != 0);
+            let found = steps.any(|step| {
+                let candidate = set(&self.case, n - step);
+                get(&candidate) == n - step && self.keep(candidate)
+            });
+            if !found {
+                return;
+            }
+        }
+    }
+}
+
+// ---- the parts of a case
+
+const HEAD: usize = 10;
+
+impl Case {
+    /// The columns that are written; then the buffer is the output, and holds no record.
+    fn written(&self) -> Option<&Columns> {
+        match &self.operation {
+            Operation::Write(columns) => Some(columns),
+            _ => None,
+        }
+    }
+
+    /// The columns that a record is read into.
+    fn filled(&self) -> Option<&Columns> {
+        match &self.operation {
+            Operation::ReadAll(columns) => Some(columns),
+            _ => None,
+        }
+    }
+
+    fn with_columns(&self, change: impl FnOnce(&mut Columns)) -> Case {
+        let mut case = self.clone();
+        if let Operation::Write(columns) | Operation::ReadAll(columns) = &mut case.operation {
+            change(columns);
+        }
+        case
+    }
+
+    /// How many fixes the buffer has in full, if it holds a record, damaged or not.
+    fn fixes(&self) -> usize {
+        if self.written().is_some() || self.buffer.len() < HEAD {
+            return 0;
+        }
+        let count = u16::from_le_bytes([self.buffer[8], self.buffer[9]]);
+        usize::from(count).min((self.buffer.len() - HEAD) / 8)
+    }
+
+    /// Length and count follow, and are as wrong as they were.
+    fn without_fixes(&self, range: Range<usize>) -> Case {
+        let mut case = self.clone();
+        let bytes = record_length(range.start)..record_length(range.end);
+        let fewer = range.len() as u16;
+        let length = u32::from_le_bytes(self.array(0)).wrapping_sub(bytes.len() as u32);
+        let count = u16::from_le_bytes(self.array(8)).wrapping_sub(fewer);
+        case.buffer[..4].copy_from_slice(&length.to_le_bytes());
+        case.buffer[8..HEAD].copy_from_slice(&count.to_le_bytes());
+        case.buffer.drain(bytes);
+        case
+    }
+
+    /// The same, if they are read into columns.
+    fn fixes_read(&self) -> usize {
+        self.filled().map_or(0, |_| self.fixes())
+    }
+
+    /// So that a column is as much too short, or too long, as it was.
+    fn without_fixes_and_rows(&self, range: Range<usize>) -> Case {
+        self.without_fixes(range.clone()).without_rows(range)
+    }
+
+    fn array<const N: usize>(&self, at: usize) -> [u8; N] {
+        let bytes = &self.buffer[at..at + N];
+        bytes.try_into().expect("it has that length")
+    }
+
+    /// How many rows the writer's longest column has.
+    fn rows(&self) -> usize {
+        let lengths = self.written().map_or([0; 3], Columns::lengths);
+        lengths.into_iter().max().unwrap_or(0)
+    }
+
+    fn without_rows(&self, range: Range<usize>) -> Case {
+        self.with_columns(|columns| {
+            cut(&mut columns.t, &range);
+            cut(&mut columns.x, &range);
+            cut(&mut columns.y, &range);
+        })
+    }
+
+    /// So that an output is as much too short, or too long, as it was.
+    fn without_rows_and_output(&self, range: Range<usize>) -> Case {
+        let mut case = self.without_rows(range.clone());
+        let left = self.buffer.len().saturating_sub(8 * range.len());
+        case.buffer.truncate(left);
+        case
+    }
+
+    /// How many calls or positions are listed.
+    fn listed(&self) -> usize {
+        match &self.operation {
+            Operation::Read(positions) => positions.len(),
+            Operation::Run(calls) | Operation::CrossesAfter(calls, _) => calls.len(),
+            _ => 0,
+        }
+    }
+
+    fn without_listed(&self, range: Range<usize>) -> Case {
+        let mut case = self.clone();
+        match &mut case.operation {
+            Operation::Read(positions) => cut(positions, &range),
+            Operation::Run(calls) | Operation::CrossesAfter(calls, _) => cut(calls, &range),
+            _ => {}
+        }
+        case
+    }
+
+    /// Where the bytes begin that are no head and no fix in full: of an output, all.
+    fn rest_from(&self) -> usize {
+        if self.written().is_some() || self.buffer.len() < HEAD {
+            return 0;
+        }
+        record_length(self.fixes())
+    }
+
+    fn rest(&self) -> usize {
+        self.buffer.len() - self.rest_from()
+    }
+
+    fn without_rest(&self, range: Range<usize>) -> Case {
+        let mut case = self.clone();
+        let from = self.rest_from();
+        case.buffer.drain(from + range.start..from + range.end);
+        case
+    }
+
+    /// The times of the writer's column or of the buffer's fixes.
+    fn times(&self) -> Vec<u32> {
+        let time = |k| u32::from_le_bytes(self.array(record_length(k)));
+        match self.written() {
+            Some(columns) => columns.t.clone(),
+            None => (0..self.fixes()).map(time).collect(),
+        }
+    }
+
+    fn set_time(&mut self, k: usize, t: u32) {
+        match &mut self.operation {
+            Operation::Write(columns) => columns.t[k] = t,
+            _ => {
+                let at = record_length(k);
+                self.buffer[at..at + 4].copy_from_slice(&t.to_le_bytes());
+            }
+        }
+    }
+
+    /// The seconds from the time before to a fix's time; to the first one's, from 0.
+    fn gap(&self, k: usize) -> i128 {
+        let times = self.times();
+        let before = if k == 0 { 0 } else { times[k - 1] };
+        i128::from(times[k]) - i128::from(before)
+    }
+
+    /// Moves the fix's time, and all that are as late or later, to where the gap is this.
+    fn with_gap(&self, k: usize, gap: i128) -> Case {
+        let mut case = self.clone();
+        let times = self.times();
+        let by = (self.gap(k) - gap) as u32;
+        for (at, &t) in times.iter().enumerate().skip(k) {
+            case.set_time(at, t.wrapping_sub(by));
+        }
+        let earlier = |t: &mut u32| {
+            if *t >= times[k] {
+                *t = t.wrapping_sub(by);
+            }
+        };
+        match &mut case.operation {
+            Operation::Place(moment) => earlier(&mut moment.second),
+            Operation::Crosses(question) | Operation::CrossesAfter(_, question) => {
+                earlier(&mut question.window.start);
+                earlier(&mut question.window.end);
+            }
+            _ => {}
+        }
+        case
+    }
+}
+
+fn cut<T>(list: &mut Vec<T>, range: &Range<usize>) {
+    let to = range.end.min(list.len());
+    list.drain(range.start.min(to)..to);
+}
+
+// ---- all numbers of a case but times
+
+/// What is done with each number, in order.
+type Visit<'a> = &'a mut dyn FnMut(i128) -> i128;
+
+/// A number that isn't of its type afterwards stays as it was.
+fn visit<T: Copy + TryInto<i128> + TryFrom<i128>>(n: &mut T, change: Visit) {
+    if let Ok(wide) = (*n).try_into() {
+        *n = T::try_from(change(wide)).unwrap_or(*n);
+    }
+}
+
+impl Case {
+    fn numbers(&self) -> Vec<i128> {
+        let mut all = Vec::new();
+        self.clone().visit(&mut |n| {
+            all.push(n);
+            n
+        });
+        all
+    }
+
+    /// The case with another number at this position of all numbers.
+    fn with(&self, k: usize, number: i128) -> Case {
+        let mut case = self.clone();
+        let mut position = 0;
+        case.visit(&mut |n| {
+            position += 1;
+            if position == k + 1 {
+                number
+            } else {
+                n
+            }
+        });
+        case
+    }
+
+    /// The same with some numbers from -3 to 3 instead, and times that begin at 0 and are at most 3 seconds apart.
+    fn small(&self, random: &mut Random) -> Case {
+        let mut case = self.clone();
+        case.visit(&mut |n| match random.between(0, 3) {
+            0 => n,
+            1 => random.between(-3, 0).into(),
+            _ => random.between(0, 3).into(),
+        });
+        let mut t = 0;
+        for k in 0..self.times().len() {
+            case.set_time(k, t);
+            t += random.between(0, 3) as u32;
+        }
+        case
+    }
+
+    /// How much its numbers and times come to.
+    fn weight(&self) -> i128 {
+        let numbers: i128 = self.numbers().iter().map(|n| n.abs()).sum();
+        let gaps: i128 = (0..self.times().len()).map(|k| self.gap(k).abs()).sum();
+        numbers + gaps
+    }
+
+    fn visit(&mut self, change: Visit) {
+        self.visit_arguments(change);
+        if self.rest_from() > 0 {
+            self.visit_two(6, change, u16::from_le_bytes, u16::to_le_bytes);
+        }
+        for k in 0..self.fixes() {
+            let at = record_length(k) + 4;
+            self.visit_two(at, change, i16::from_le_bytes, i16::to_le_bytes);
+            self.visit_two(at + 2, change, i16::from_le_bytes, i16::to_le_bytes);
+        }
+        let from = self.rest_from();
+        for byte in &mut self.buffer[from..] {
+            visit(byte, change);
+        }
+    }
+
+    fn visit_two<T: Copy + TryInto<i128> + TryFrom<i128>>(
+        &mut self,
+        at: usize,
+        change: Visit,
+        from: fn([u8; 2]) -> T,
+        to: fn(T) -> [u8; 2],
+    ) {
+        let mut n = from(self.array(at));
+        visit(&mut n, change);
+        self.buffer[at..at + 2].copy_from_slice(&to(n));
+    }
+
+    fn visit_arguments(&mut self, change: Visit) {
+        match &mut self.operation {
+            Operation::Check | Operation::List => {}
+            Operation::Read(positions) => positions.iter_mut().for_each(|n| visit(n, change)),
+            Operation::ReadAll(Columns { t, x, y }) => {
+                t.iter_mut().for_each(|n| visit(n, change));
+                x.iter_mut().chain(y).for_each(|n| visit(n, change));
+            }
+            Operation::Write(Columns { x, y, .. }) => {
+                x.iter_mut().chain(y).for_each(|n| visit(n, change));
+            }
+            Operation::Age(n) | Operation::Days(n) => visit(n, change),
+            Operation::Run(calls) => calls.iter_mut().for_each(|n| visit(n, change)),
+            Operation::Place(moment) => {
+                visit(&mut moment.second, change);
+                visit(&mut moment.thousandths, change);
+            }
+            Operation::Crosses(question) => visit_question(question, change),
+            Operation::CrossesAfter(calls, question) => {
+                calls.iter_mut().for_each(|n| visit(n, change));
+                visit_question(question, change);
+            }
+        }
+    }
+}
+
+fn visit_question(question: &mut Question, change: Visit) {
+    let Question { window, area } = question;
+    visit(&mut window.start, change);
+    visit(&mut window.end, change);
+    for edge in [
+        &mut area.left,
+        &mut area.right,
+        &mut area.bottom,
+        &mut area.top,
+    ] {
+        visit(edge, change);
+    }
+}

@@ -1,0 +1,81 @@
+//! What the plain version answers to each function of the interface, put as the interface puts it.
+
+use crate::columns::Columns;
+use crate::interface::{Answer, Head, Place, Run, Step};
+use crate::plain::lists::Call;
+use crate::plain::moment::Whereabouts;
+use crate::plain::{self, lists, moment, Fix};
+
+/// A refusal's number, 0 for none, and beside it what is answered where there is none, or nothing.
+fn told<T: Default>(result: Result<T, u8>) -> (u32, T) {
+    match result {
+        Ok(value) => (0, value),
+        Err(number) => (number.into(), T::default()),
+    }
+}
+
+fn answer(result: Result<u32, u8>) -> Answer {
+    let (refusal, value) = told(result);
+    Answer { refusal, value }
+}
+
+pub fn check(lent: &[u8]) -> Head {
+    let facts = |trail: plain::Trail| (trail.fixes.len() as u32, trail.mark.into());
+    let (refusal, (count, mark)) = told(plain::read(lent).map(facts));
+    Head {
+        refusal,
+        count,
+        mark,
+    }
+}
+
+pub fn read(lent: &[u8], position: usize) -> Step {
+    let trail = plain::read(lent);
+    let (refusal, found) = told(trail.map(|trail| trail.fixes.get(position).copied()));
+    let step = found.map_or(Step::default(), |Fix { t, x, y }| Step {
+        refusal: 0,
+        found: 1,
+        t,
+        x: x.into(),
+        y: y.into(),
+    });
+    Step { refusal, ..step }
+}
+
+pub fn read_all(lent: &[u8], columns: &mut Columns) -> Answer {
+    let filled = |trail: plain::Trail| {
+        columns.fill(&trail.fixes);
+        trail.fixes.len() as u32
+    };
+    answer(plain::read(lent).map(filled))
+}
+
+pub fn write(list: &[Fix], output: &mut [u8]) -> Answer {
+    answer(plain::write(list, output).map(|length| length as u32))
+}
+
+pub fn aging(lent: &mut [u8], call: Call) -> Answer {
+    answer(call.make(lent))
+}
+
+pub fn place(lent: &[u8], second: u32, thousandths: u16) -> Place {
+    const FITS: &str = "it fits, says document 01";
+    let found = |found: Whereabouts| Place {
+        refusal: 0,
+        denominator: found.denominator.try_into().expect(FITS),
+        x: found.x.try_into().expect(FITS),
+        y: found.y.try_into().expect(FITS),
+        whole_x: found.whole_x.try_into().expect(FITS),
+        whole_y: found.whole_y.try_into().expect(FITS),
+    };
+    let (refusal, place) = told(moment::place(lent, second, thousandths).map(found));
+    Place { refusal, ..place }
+}
+
+pub fn run(lent: &mut [u8], calls: &[u32]) -> Run {
+    let (refusal, turned_away) = told(lists::run(lent, &Call::all_of(calls)));
+    Run {
+        refusal,
+        turned_away,
+    }
+}

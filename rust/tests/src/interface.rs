@@ -1,0 +1,34 @@
+//! The functions of `include/trails.h`, as the package `trails` offers them, with this package's columns and questions.
+
+use trails::interface as offered;
+
+pub use offered::{age, age_by_days, check, list, place, read, run, write};
+pub use offered::{Answer, Crossing, Head, Place, Run, Step, LONGEST_TEXT};
+
+use crate::columns::Columns;
+use crate::plain::crossing::Question;
+
+pub fn read_all(record: &[u8], columns: &mut Columns) -> Answer {
+    offered::read_all(record, &mut columns.t, &mut columns.x, &mut columns.y)
+}
+
+/// A question as it is lent to the interface.
+fn asked(question: &Question) -> offered::Question {
+    let Question { window, area } = question;
+    offered::Question {
+        start: window.start,
+        end: window.end,
+        left: area.left,
+        right: area.right,
+        bottom: area.bottom,
+        top: area.top,
+    }
+}
+
+pub fn crosses(record: &[u8], question: &Question) -> Crossing {
+    offered::crosses(record, asked(question))
+}
+
+pub fn crosses_after(record: &mut [u8], calls: &[u32], question: &Question) -> Crossing {
+    offered::crosses_after(record, calls, asked(question))
+}

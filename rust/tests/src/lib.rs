@@ -1,0 +1,17 @@
+//! The proved functions beside a plain Rust version of document 01, on many records.
+//!
+//! The proofs say that each function equals its definition. These tests ask what no proof can say: that the
+//! definitions mean what somebody else reads in document 01, and that the compiled archive and the C interface
+//! hand the numbers over unharmed.
+#![forbid(unsafe_code)]
+
+pub mod agings;
+pub mod cases;
+pub mod columns;
+pub mod compare;
+pub mod expected;
+pub mod interface;
+pub mod plain;
+pub mod programs;
+pub mod questions;
+pub mod shapes;

@@ -1,0 +1,113 @@
+//! A plain version of thinning and of aging.
+
+use super::{read, record, refuse_if, Fix, Trail, NEVER};
+
+/// What a thinning keeps, and the count: one for each inner fix measured in each span examined.
+#[derive(Debug, PartialEq, Eq)]
+pub struct Thinned {
+    pub kept: Vec<Fix>,
+    pub count: u32,
+}
+
+/// The two ends of a span, and D, its seconds.
+struct Span {
+    i: Fix,
+    j: Fix,
+    d: i128,
+}
+
+fn seconds(from: Fix, to: Fix) -> i128 {
+    i128::from(to.t) - i128::from(from.t)
+}
+
+impl Span {
+    fn new(i: Fix, j: Fix) -> Span {
+        let d = seconds(i, j);
+        Span { i, j, d }
+    }
+
+    /// Nx² + Ny² of an inner fix. "Per axis, N = (x_m − x_i)·D − (x_j − x_i)·(t_m − t_i)."
+    fn deviation(&self, m: Fix) -> i128 {
+        let since = seconds(self.i, m);
+        let n = |i: i16, m: i16, j: i16| {
+            let (i, m, j) = (i128::from(i), i128::from(m), i128::from(j));
+            (m - i) * self.d - (j - i) * since
+        };
+        let nx = n(self.i.x, m.x, self.j.x);
+        let ny = n(self.i.y, m.y, self.j.y);
+        nx * nx + ny * ny
+    }
+
+    /// e²·D²: "The distance is at most e exactly if Nx² + Ny² ≤ e²·D²."
+    fn allowance(&self, e: u16) -> i128 {
+        let e = i128::from(e);
+        e * e * self.d * self.d
+    }
+}
+
+/// Douglas-Peucker. Spans that are still to be examined wait in a list, so no depth of splitting can matter.
+pub fn thin(fixes: &[Fix], e: u16) -> Thinned {
+    let last = fixes.len() - 1;
+    let mut keep = vec![false; fixes.len()];
+    keep[0] = true;
+    keep[last] = true;
+    let mut count = 0;
+    let mut waiting = vec![(0, last)];
+    while let Some((from, to)) = waiting.pop() {
+        let span = Span::new(fixes[from], fixes[to]);
+        // a lone fix is a span with no inner fix too
+        let inner = fixes.get(from + 1..to).unwrap_or(&[]);
+        let far: Vec<i128> = inner.iter().map(|&m| span.deviation(m)).collect();
+        count += far.len() as u32;
+        let most = far.iter().copied().max().unwrap_or(0);
+        if most <= span.allowance(e) {
+            continue;
+        }
+        // "the furthest, the earliest of equals"
+        let first = far.iter().position(|&one| one == most);
+        let split = from + 1 + first.expect("the greatest is one of them");
+        keep[split] = true;
+        waiting.push((from, split));
+        waiting.push((split, to));
+    }
+    let all = fixes.iter().zip(&keep);
+    let kept = all.filter(|(_, &keep)| keep).map(|(&fix, _)| fix).collect();
+    Thinned { kept, count }
+}
+
+/// Thins the record at the buffer's start, and answers the count. The bytes after the new record stay.
+fn rewrite(lent: &mut [u8], trail: &Trail, e: u16) -> u32 {
+    let thinned = thin(&trail.fixes, e);
+    let mark = match trail.mark {
+        NEVER => e,
+        mark => mark.max(e),
+    };
+    let bytes = record(mark, &thinned.kept);
+    lent[..bytes.len()].copy_from_slice(&bytes);
+    thinned.count
+}
+
+/// Aging by tolerance: checks 1 to 10.
+pub fn age(lent: &mut [u8], e: u16) -> Result<u32, u8> {
+    let trail = read(lent)?;
+    refuse_if(10, e > 32_000)?;
+    Ok(rewrite(lent, &trail, e))
+}
+
+/// The tolerance that days give, if they give one.
+pub fn tolerance_of(days: u16) -> Option<u16> {
+    match days {
+        0..=1 => None,
+        2..=6 => Some(10),
+        7..=29 => Some(25),
+        30..=89 => Some(100),
+        90.. => Some(400),
+    }
+}
+
+/// Aging by days: checks 1 to 9.
+pub fn age_by_days(lent: &mut [u8], days: u16) -> Result<u32, u8> {
+    let trail = read(lent)?;
+    let aged = tolerance_of(days).map(|e| rewrite(lent, &trail, e));
+    Ok(aged.unwrap_or(0))
+}

@@ -1,0 +1,291 @@
+//! Questions to try about a trail, good and bad, and the proved answers held to the plain version's.
+
+use crate::cases::{fixes, Cases, Random, Settings, Tally};
+use crate::expected;
+use crate::interface::{self, Crossing};
+use crate::plain::crossing::{self, Area, Question, Window};
+use crate::plain::place::Time;
+use crate::plain::{self, Fix};
+
+fn ends(fixes: &[Fix]) -> (u32, u32) {
+    (fixes[0].t, fixes[fixes.len() - 1].t)
+}
+
+/// A second from the first fix to the last: a fix's own, next to it, or any.
+fn second(fixes: &[Fix], random: &mut Random) -> u32 {
+    let (first, last) = ends(fixes);
+    let any = random.between(first.into(), last.into()) as u32;
+    let fix = random.pick(fixes).t;
+    let before = fix.saturating_sub(1).max(first);
+    let after = fix.saturating_add(1).min(last);
+    random.pick(&[any, any, fix, fix, before, after, first, last])
+}
+
+// ---- any question
+
+/// A question that can be asked of a trail.
+pub trait Asked: Sized + std::fmt::Debug {
+    /// One that no check turns away.
+    fn good(fixes: &[Fix], random: &mut Random) -> Self;
+
+    /// Makes the sentence of this check true.
+    fn spoil(&mut self, fault: u8, fixes: &[Fix], random: &mut Random);
+
+    /// A question with these faults about the record. Of one that is turned away, any question will do.
+    fn spoiled(record: &[u8], faults: &[u8], random: &mut Random) -> Self {
+        let trail = plain::read(record);
+        let fixes = trail.map_or_else(|_| fixes(random, 2), |trail| trail.fixes);
+        let mut question = Self::good(&fixes, random);
+        for &fault in faults {
+            question.spoil(fault, &fixes, random);
+        }
+        question
+    }
+}
+
+/// Asks every case questions with each of these sets of faults: a record's own refusal comes before the question's, and
+/// of the question's faults the least number. `ask` gives the number that it was answered.
+pub fn refused_in_order<Q: Asked>(
+    faults: &[&[u8]],
+    tally: &mut Tally,
+    ask: impl Fn(&[u8], &Q, &str) -> u32,
+) {
+    let settings = Settings::get();
+    let mut random = Random::new(settings.seed);
+    for case in Cases::all(settings) {
+        for some in faults {
+            let question = Q::spoiled(&case.bytes, some, &mut random);
+            let name = format!("{}, faults {some:?}", case.name);
+            let refusal = ask(&case.bytes, &question, &name);
+            if let Some(known) = case.known {
+                let fault = some.iter().copied().min().unwrap_or(0);
+                let known = if known == 0 { fault } else { known };
+                assert_eq!(refusal, known.into(), "{name}, {question:?}");
+            }
+            tally.count(refusal);
+        }
+    }
+}
+
+// ---- the place question
+
+/// A second and its thousandths.
+#[derive(Clone, Copy, Debug, PartialEq, Eq)]
+pub struct Moment {
+    pub second: u32,
+    pub thousandths: u16,
+}
+
+impl Asked for Moment {
+    /// From the first fix to the last.
+    fn good(fixes: &[Fix], random: &mut Random) -> Moment {
+        let second = second(fixes, random);
+        let any = random.between(0, 999) as u16;
+        let thousandths = random.pick(&[0, 0, 1, 499, 500, 501, 999, any, any]);
+        Moment {
+            second,
+            // no thousandth is left after the last second
+            thousandths: if second == ends(fixes).1 {
+                0
+            } else {
+                thousandths
+            },
+        }
+    }
+
+    /// Makes the sentence of check 12 true and not that of 11, or that of 11 true.
+    fn spoil(&mut self, fault: u8, fixes: &[Fix], random: &mut Random) {
+        let (first, last) = ends(fixes);
+        match fault {
+            11 => {
+                // thousandths that would be good in 8 or 10 bits are among them
+                let high = random.between(1_000, 65_535) as u16;
+                self.thousandths = random.pick(&[1_000, 1_024, 65_280, 65_535, high]);
+            }
+            12 => {
+                let moment = |second, thousandths| Moment {
+                    second,
+                    thousandths,
+                };
+                let before = first.checked_sub(1);
+                let after = last.checked_add(1);
+                let outside = [
+                    before.map(|t| moment(t, 999)),
+                    before.map(|t| moment(t, 0)),
+                    before.map(|_| moment(0, 0)),
+                    after.map(|t| moment(t, 0)),
+                    after.map(|_| moment(u32::MAX, 999)),
+                    Some(moment(last, 1)),
+                    Some(moment(last, 999)),
+                ];
+                let outside: Vec<Moment> = outside.into_iter().flatten().collect();
+                *self = random.pick(&outside);
+            }
+            other => panic!("no fault of a moment has the number {other}"),
+        }
+    }
+}
+
+/// Asks for the place, and holds the answer to the plain version's, and the bytes to what they were.
+pub fn place(record: &[u8], moment: Moment, name: &str) -> interface::Place {
+    let before = record.to_vec();
+    let answer = interface::place(record, moment.second, moment.thousandths);
+    let expected = expected::place(record, moment.second, moment.thousandths);
+    assert_eq!(answer, expected, "{name}, {moment:?}");
+    assert!(record == before, "{name}, {moment:?}: other bytes");
+    answer
+}
+
+// ---- the crossing question
+
+impl Window {
+    fn good(fixes: &[Fix], random: &mut Random) -> Window {
+        let (first, last) = ends(fixes);
+        let (one, other) = (second(fixes, random), second(fixes, random));
+        let (start, end) = random.pick(&[
+            (first, last),
+            (one.min(other), one.max(other)),
+            (one, one),
+            (one, one.saturating_add(1).min(last)),
+            (one, last),
+        ]);
+        Window { start, end }
+    }
+
+    fn bad(fixes: &[Fix], random: &mut Random) -> Window {
+        let (first, last) = ends(fixes);
+        let before = first.checked_sub(1);
+        let after = last.checked_add(1);
+        let all = [
+            before.map(|t| (t, last)),
+            before.map(|t| (t, t)),
+            before.map(|t| (first, t)),
+            before.map(|_| (0, last)),
+            after.map(|t| (first, t)),
+            after.map(|t| (t, t)),
+            after.map(|t| (t, last)),
+            after.map(|_| (first, u32::MAX)),
+            (first < last).then_some((last, first)),
+            (first < last).then(|| (first + 1, first)),
+        ];
+        let all: Vec<(u32, u32)> = all.into_iter().flatten().collect();
+        let (start, end) = random.pick(&all);
+        Window { start, end }
+    }
+}
+
+/// An edge: a place of the trail, one centimetre off or some, a wall, or any.
+fn edge(places: &[i32], random: &mut Random) -> i32 {
+    let place = random.pick(places);
+    let off = random.between(-1, 1) as i32;
+    let far = random.between(-600, 600) as i32;
+    let wall = random.pick(&[-16_000, 16_000]);
+    let any = random.between(-16_000, 16_000) as i32;
+    let edge = random.pick(&[place, place, place + off, place + far, wall, any]);
+    edge.clamp(-16_000, 16_000)
+}
+
+/// A low edge and a high one, which in one of four are the same.
+fn edges(places: &[i32], random: &mut Random) -> (i32, i32) {
+    let one = edge(places, random);
+    let other = match random.between(0, 3) {
+        0 => one,
+        _ => edge(places, random),
+    };
+    (one.min(other), one.max(other))
+}
+
+impl Area {
+    pub fn new(x: (i32, i32), y: (i32, i32)) -> Area {
+        Area {
+            left: x.0,
+            right: x.1,
+            bottom: y.0,
+            top: y.1,
+        }
+    }
+
+    /// A box with its edges at or about the trail's places, so that many are touched or hardly missed.
+    fn good(fixes: &[Fix], random: &mut Random) -> Area {
+        // a few neighbours, so that small boxes are near the trail on both axes
+        let at = random.between(0, fixes.len() as i64 - 1) as usize;
+        let some = &fixes[at..fixes.len().min(at + 3)];
+        let x: Vec<i32> = some.iter().map(|fix| fix.x.into()).collect();
+        let y: Vec<i32> = some.iter().map(|fix| fix.y.into()).collect();
+        Area::new(edges(&x, random), edges(&y, random))
+    }
+
+    fn spoil(&mut self, random: &mut Random) {
+        // 65,536 and its like would be good if they were cut to 16 bits
+        let below = random.pick(&[-16_001, -65_536, -40_000, i32::MIN]);
+        let above = random.pick(&[16_001, 65_536, 40_000, i32::MAX]);
+        match random.between(0, 9) {
+            0 => self.left = below,
+            1 => self.right = above,
+            2 => self.bottom = below,
+            3 => self.top = above,
+            4 => (self.left, self.right) = (above, above),
+            5 => (self.left, self.right) = (below, below),
+            6 => (self.bottom, self.top) = (above, above),
+            7 => (self.bottom, self.top) = (below, below),
+            8 => (self.left, self.right) = (self.right.max(-15_999), self.right.max(-15_999) - 1),
+            _ => (self.bottom, self.top) = (self.top.max(-15_999), self.top.max(-15_999) - 1),
+        }
+    }
+}
+
+impl Asked for Question {
+    fn good(fixes: &[Fix], random: &mut Random) -> Question {
+        Question {
+            window: Window::good(fixes, random),
+            area: Area::good(fixes, random),
+        }
+    }
+
+    /// Makes the sentence of check 13 or 14 true, and leaves the other's as it is.
+    fn spoil(&mut self, fault: u8, fixes: &[Fix], random: &mut Random) {
+        match fault {
+            13 => self.window = Window::bad(fixes, random),
+            14 => self.area.spoil(random),
+            other => panic!("no fault of a crossing has the number {other}"),
+        }
+    }
+}
+
+/// Holds an answer to what the plain version found: a refusal and a no carry nothing, and a yes has the same time, in
+/// any form with a denominator from 1 to 32,000.
+pub fn agrees(answer: Crossing, expected: Result<Option<Time>, u8>, name: &str) {
+    let facts = (answer.refusal, answer.crosses);
+    match expected {
+        Err(number) => assert_eq!(facts, (number.into(), 0), "{name}"),
+        Ok(time) => assert_eq!(facts, (0, time.is_some().into()), "{name}: {time:?}"),
+    }
+    match expected {
+        Ok(Some(time)) => {
+            let told = told(&answer, name);
+            assert!(told.order(&time).is_eq(), "{name}: {told:?}, not {time:?}");
+        }
+        _ => assert_eq!((answer.numerator, answer.denominator), (0, 0), "{name}"),
+    }
+}
+
+/// The time of a yes, in seconds after the first fix.
+pub fn told(answer: &Crossing, name: &str) -> Time {
+    assert_eq!((answer.refusal, answer.crosses), (0, 1), "{name}");
+    let free = 1..=32_000;
+    assert!(free.contains(&answer.denominator), "{name}: {answer:?}");
+    Time {
+        p: answer.numerator.into(),
+        q: answer.denominator.into(),
+    }
+}
+
+/// Asks for the crossing, and holds the answer to the plain version's, and the bytes to what they were.
+pub fn crosses(record: &[u8], question: &Question, name: &str) -> Crossing {
+    let before = record.to_vec();
+    let name = format!("{name}, {question:?}");
+    let answer = interface::crosses(record, question);
+    agrees(answer, crossing::crosses(record, question), &name);
+    assert!(record == before, "{name}: other bytes");
+    answer
+}

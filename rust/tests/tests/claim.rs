@@ -1,0 +1,259 @@
+//! The claim about whole lists of agings with a crossing asked after them, as one call: what the record is then, and
+//! what a yes and a no say about the original.
+#![forbid(unsafe_code)]
+
+use trails_tests::agings::{some_calls, Buffer};
+use trails_tests::cases::{Random, Settings, Tally};
+use trails_tests::interface::{self, crosses_after, run, Crossing};
+use trails_tests::plain::crossing::{crosses, telling_times, Area, Question, Window};
+use trails_tests::plain::lists::{self, Book, Call};
+use trails_tests::plain::place::{Place, Time};
+use trails_tests::plain::{record_length, Fix, MOST_FIXES};
+use trails_tests::questions::{agrees, refused_in_order, told, Asked as _};
+use trails_tests::shapes::{trail, SHAPES};
+
+/// A list and a question, and how many answers were of each kind, so that none can be missing unseen.
+struct Run {
+    random: Random,
+    refused: usize,
+    /// yes: with the original in the box at that time, and near it only
+    told: [usize; 2],
+    /// no: with the original never in the box, and in it close to a side
+    denied: [usize; 2],
+}
+
+impl Run {
+    fn new() -> Run {
+        Run {
+            random: Random::new(Settings::get().seed),
+            refused: 0,
+            told: [0; 2],
+            denied: [0; 2],
+        }
+    }
+
+    fn numbers(&mut self, calls: &[Call]) -> Vec<u32> {
+        let number = |call: &Call| call.number(&mut self.random);
+        calls.iter().map(number).collect()
+    }
+
+    /// Makes the calls and asks, and holds the claim to what came of it.
+    fn case(&mut self, name: &str, fixes: &[Fix], calls: &[Call], question: &Question) {
+        let name = format!("{name}, {calls:?}, {question:?}");
+        let numbers = self.numbers(calls);
+        let mut buffer = Buffer::never_thinned(name, fixes, &mut self.random);
+        let before = buffer.bytes.clone();
+        let answer = crosses_after(&mut buffer.bytes, &numbers, question);
+        let mut aged = Buffer::new(buffer.name.clone(), before.clone());
+        let run = run(&mut aged.bytes, &numbers);
+        assert_eq!(run, tells_the_calls(calls), "{}", buffer.name);
+        let book = leaves_what_the_book_says(&aged, &before, fixes, calls);
+        // refused or not, the question is of the trail before as it is of the trail after
+        agrees(answer, crosses(&aged.bytes, question), &buffer.name);
+        let e = book.e.unwrap_or(0);
+        if answer.refusal != 0 {
+            assert!(buffer.bytes == before, "{}: refused", buffer.name);
+            self.refused += 1;
+            return;
+        }
+        assert!(buffer.bytes == aged.bytes, "{}: other bytes", buffer.name);
+        if answer.crosses == 1 {
+            self.told[told_is_near(&answer, fixes, question, e, &buffer.name)] += 1;
+        } else {
+            self.denied[denied_is_outside(fixes, question, e, &buffer.name)] += 1;
+        }
+    }
+
+    fn question(&mut self, fixes: &[Fix]) -> Question {
+        let mut question = Question::good(fixes, &mut self.random);
+        if self.random.one_in(10) {
+            let fault = self.random.pick(&[13, 14]);
+            question.spoil(fault, fixes, &mut self.random);
+        }
+        question
+    }
+
+    fn expect_all_kinds(&self) {
+        let ([inside, near], [outside, beside]) = (self.told, self.denied);
+        println!("claim: {inside} told with the original inside, {near} near");
+        println!("claim: {outside} denied with the original outside, {beside} by a side");
+        println!("claim: {} refused", self.refused);
+        let all = [inside, near, outside, beside, self.refused];
+        assert!(all.iter().all(|&many| many > 0));
+    }
+}
+
+/// Of an accepted record: none refused it, and so many calls were turned away.
+fn tells_the_calls(calls: &[Call]) -> interface::Run {
+    let high = |call: &&Call| matches!(call, Call::Tolerance(32_001..));
+    interface::Run {
+        refusal: 0,
+        turned_away: calls.iter().filter(high).count(),
+    }
+}
+
+/// The record is the book's, and every byte is as the plain agings leave it.
+fn leaves_what_the_book_says(
+    buffer: &Buffer,
+    before: &[u8],
+    fixes: &[Fix],
+    calls: &[Call],
+) -> Book {
+    let mut book = Book::of(fixes);
+    let mut plain = before.to_vec();
+    for &call in calls {
+        book.feed(call);
+        // a refused call leaves the buffer
+        let _ = call.make(&mut plain);
+    }
+    let name = &buffer.name;
+    assert_eq!(buffer.trail(), book.expected(), "{name}");
+    assert!(buffer.bytes == plain, "{name}: other bytes");
+    let after = record_length(fixes.len());
+    assert!(buffer.bytes[after..] == before[after..], "{name}: the tail");
+    book
+}
+
+/// A yes: at its time the original is within E of the box. Answers 0 if it is in the box, and 1 if it isn't.
+fn told_is_near(
+    answer: &Crossing,
+    original: &[Fix],
+    question: &Question,
+    e: u16,
+    name: &str,
+) -> usize {
+    let told = told(answer, name);
+    let time = Time {
+        p: told.p + told.q * i128::from(original[0].t),
+        q: told.q,
+    };
+    let window = question.window;
+    assert!(time.from_to(window.start, window.end), "{name}: {time:?}");
+    let place = Place::at(original, time);
+    assert!(question.area.within(&place, e), "{name}: {place:?}");
+    usize::from(!question.area.holds(&place))
+}
+
+/// A no: whenever the original is in the box, it is at most E from one of its sides. Answers 1 if it is ever in it.
+fn denied_is_outside(original: &[Fix], question: &Question, e: u16, name: &str) -> usize {
+    let mut ever = 0;
+    for time in telling_times(original, question, e) {
+        let place = Place::at(original, time);
+        if question.area.holds(&place) {
+            ever = 1;
+            let beside = question.area.beside(&place, e);
+            assert!(beside, "{name}, at {time:?}: {place:?}");
+        }
+    }
+    ever
+}
+
+#[test]
+fn any_list_and_question() {
+    let settings = Settings::get();
+    let mut run = Run::new();
+    for k in 0..settings.cases {
+        let shape = SHAPES[k % SHAPES.len()];
+        let n = run
+            .random
+            .between(1, if k.is_multiple_of(20) { 400 } else { 60 });
+        let fixes = trail(shape, n as usize, &mut run.random);
+        let calls = some_calls(&mut run.random);
+        let question = run.question(&fixes);
+        let name = format!("seed {}: {shape:?}, {n} fixes", settings.seed);
+        run.case(&name, &fixes, &calls, &question);
+    }
+    run.expect_all_kinds();
+}
+
+/// Tolerances that thin but leave something, where yes and no are the hardest to have right.
+#[test]
+fn lists_of_small_tolerances() {
+    let settings = Settings::get();
+    let mut run = Run::new();
+    for k in 0..settings.cases {
+        let shape = SHAPES[k % SHAPES.len()];
+        let fixes = trail(shape, 40, &mut run.random);
+        let mut small = || Call::Tolerance(run.random.between(0, 40) as u16);
+        let calls = [small(), Call::Days(1), small(), Call::Tolerance(32_001)];
+        let question = run.question(&fixes);
+        let name = format!("seed {}: {shape:?}", settings.seed);
+        run.case(&name, &fixes, &calls, &question);
+    }
+    run.expect_all_kinds();
+}
+
+// A yes and a no that are as far off as 50 lets them be, so that the claim is no weaker than it says.
+
+const BOUND: [Call; 3] = [Call::Tolerance(12), Call::Tolerance(50), Call::Days(7)];
+
+fn at_second(second: u32, area: Area) -> Question {
+    let (start, end) = (second, second);
+    let window = Window { start, end };
+    Question { window, area }
+}
+
+/// Document 01's trail c: at second 10 the record has the cart in the box, a point, and the original 50 from it.
+#[test]
+fn a_yes_may_be_off_by_all_of_e() {
+    let fixes = [(0, 0, 0), (10, 30, 40), (20, 0, 0)].map(Fix::from);
+    let question = at_second(10, Area::new((0, 0), (0, 0)));
+    let mut run = Run::new();
+    run.case("c", &fixes, &BOUND, &question);
+    assert_eq!(run.told, [0, 1]);
+    let place = Place::at(&fixes, Time::whole(10));
+    assert!(question.area.within(&place, 50) && !question.area.within(&place, 49));
+}
+
+/// From second 3 to 6 the original is 50 ahead of the line between its ends, which is all that is left. At second 5
+/// the record has x at 5/3, left of the box, and the original at 155/3, which is 149/3 from the left edge.
+#[test]
+fn a_no_may_be_off_by_more_than_the_whole_number_below_e() {
+    let fixes = [(0, 0, 0), (3, 51, 0), (6, 52, 0), (9, 3, 0)].map(Fix::from);
+    let question = at_second(5, Area::new((2, 200), (-100, 100)));
+    let mut run = Run::new();
+    run.case("ahead", &fixes, &BOUND, &question);
+    assert_eq!(run.denied, [0, 1]);
+    let place = Place::at(&fixes, Time::whole(5));
+    assert!(question.area.beside(&place, 50) && !question.area.beside(&place, 49));
+}
+
+#[test]
+fn the_longest_trails_and_a_long_list() {
+    let mut run = Run::new();
+    for shape in SHAPES {
+        let fixes = trail(shape, MOST_FIXES, &mut run.random);
+        let mut long: Vec<Call> = (0..20).map(|k| Call::Tolerance(k % 7)).collect();
+        long.push(Call::Days(65_535));
+        for calls in [&[][..], &[Call::Days(0)], &[Call::Tolerance(3)], &long] {
+            let question = run.question(&fixes);
+            run.case(&format!("{shape:?}, the longest"), &fixes, calls, &question);
+        }
+    }
+}
+
+/// A record that is turned away, or a question: no call of the list is made, and no byte is changed.
+#[test]
+fn what_is_refused_is_left_as_it_was() {
+    let numbers = [12, 32_001, 65_536 + 7];
+    let calls = Call::all_of(&numbers);
+    let mut tally = Tally::default();
+    let faults: [&[u8]; 4] = [&[], &[13], &[14], &[14, 13]];
+    refused_in_order(&faults, &mut tally, |record, question: &Question, name| {
+        let (mut bytes, mut plain) = (record.to_vec(), record.to_vec());
+        let answer = crosses_after(&mut bytes, &numbers, question);
+        let name = format!("{name}, {question:?}");
+        agrees(
+            answer,
+            lists::crosses_after(&mut plain, &calls, question),
+            &name,
+        );
+        assert!(bytes == plain, "{name}: other bytes");
+        assert!(answer.refusal == 0 || bytes == record, "{name}: refused");
+        answer.refusal
+    });
+    tally.expect(
+        "crossing after a list",
+        &[1, 2, 3, 4, 5, 6, 7, 8, 9, 13, 14],
+    );
+}

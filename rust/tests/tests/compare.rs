@@ -1,0 +1,260 @@
+//! The comparison itself: it meets everything and finds no difference, and of one that is put in it shows the smallest
+//! case.
+#![forbid(unsafe_code)]
+
+use trails_tests::cases::Settings;
+use trails_tests::columns::Columns;
+use trails_tests::compare::{plain, proved, run, Case, Crossed, Outcome, Reply};
+use trails_tests::compare::{Operation, Sides};
+use trails_tests::plain::crossing::{Area, Question, Window};
+use trails_tests::plain::thinning::thin;
+use trails_tests::plain::{self, read, record_length, Fix, NEVER};
+
+const SETTINGS: Settings = Settings {
+    seed: 7,
+    cases: 20_000,
+};
+
+fn record(mark: u16, fixes: &[(u32, i16, i16)]) -> Vec<u8> {
+    let fixes: Vec<Fix> = fixes.iter().copied().map(Fix::from).collect();
+    plain::record(mark, &fixes)
+}
+
+/// How many fixes an accepted record has, and 0 of others.
+fn fixes(buffer: &[u8]) -> usize {
+    read(buffer).map_or(0, |trail| trail.fixes.len())
+}
+
+/// The case that is shown when the plain version's outcomes are spoiled.
+fn shown(spoil: fn(&Case, &mut Outcome)) -> Case {
+    let faulty = |case: &Case| {
+        let mut outcome = plain(case);
+        spoil(case, &mut outcome);
+        outcome
+    };
+    let sides = Sides {
+        proved: &proved,
+        plain: &faulty,
+    };
+    match run(SETTINGS, sides) {
+        Ok(table) => panic!("no difference was found:\n{table}"),
+        Err(case) => *case,
+    }
+}
+
+#[test]
+fn there_is_no_difference_and_nothing_is_missing() {
+    let sides = Sides {
+        proved: &proved,
+        plain: &plain,
+    };
+    let table = run(SETTINGS, sides).unwrap_or_else(|case| panic!("{case:?}"));
+    println!("{table}");
+    assert!(table.missing().is_empty(), "{:?}", table.missing());
+    assert!(table.to_string().ends_with("20000 cases, 0 differences"));
+}
+
+#[test]
+fn a_count_that_is_wrong_from_3_fixes_on_is_shown_with_3() {
+    let case = shown(|case, outcome| {
+        if let (Operation::Age(_), Reply::Answer(answer)) = (&case.operation, &mut outcome.reply) {
+            answer.value += u32::from(fixes(&case.buffer) >= 3);
+        }
+    });
+    assert_eq!(case.operation, Operation::Age(0));
+    let smallest = record(0, &[(0, 0, 0), (1, 0, 0), (2, 0, 0)]);
+    assert_eq!(case.buffer, smallest);
+}
+
+#[test]
+fn a_tolerance_that_is_wrong_from_100_on_is_shown_at_100() {
+    let case = shown(|case, outcome| {
+        if matches!(case.operation, Operation::Age(100..=32_000)) && fixes(&case.buffer) > 0 {
+            outcome.after.buffer[6] ^= 1;
+        }
+    });
+    assert_eq!(case.operation, Operation::Age(100));
+    assert_eq!(case.buffer, record(0, &[(0, 0, 0)]));
+}
+
+/// Of a distance that is just within the tolerance hardly a number can be changed alone.
+#[test]
+fn a_distance_at_the_tolerance_is_shown_in_small_numbers() {
+    let case = shown(|case, outcome| {
+        let (Operation::Age(e @ 1..=32_000), Ok(trail)) = (&case.operation, read(&case.buffer))
+        else {
+            return;
+        };
+        let kept = |e: u16| thin(&trail.fixes, e).kept;
+        if kept(e - 1) != kept(*e) {
+            outcome.after.buffer[0] ^= 0xFF;
+        }
+    });
+    assert_eq!(case.operation, Operation::Age(1));
+    let fixes = read(&case.buffer).expect("it is accepted").fixes;
+    let times: Vec<u32> = fixes.iter().map(|fix| fix.t).collect();
+    assert_eq!(times, [0, 1, 2]);
+    // one coordinate of one fix is 1, or -1; which of them doesn't matter
+    let off = fixes.iter().map(|fix| fix.x.abs() + fix.y.abs());
+    assert_eq!(off.sum::<i16>(), 1, "{fixes:?}");
+}
+
+#[test]
+fn a_changed_byte_after_the_record_is_shown_with_that_byte() {
+    let case = shown(|case, outcome| {
+        let count = fixes(&case.buffer);
+        let after = outcome.after.buffer.get_mut(record_length(count));
+        if let (Operation::Check, 1.., Some(byte)) = (&case.operation, count, after) {
+            *byte ^= 0x80;
+        }
+    });
+    let mut smallest = record(0, &[(0, 0, 0)]);
+    smallest.push(0);
+    assert_eq!(case.buffer, smallest);
+    assert_eq!(case.operation, Operation::Check);
+}
+
+#[test]
+fn a_list_is_shown_with_the_calls_that_matter() {
+    let case = shown(|case, outcome| {
+        if let Operation::Run(calls) = &case.operation {
+            let days = calls.iter().any(|&call| call >= 65_536);
+            let high = calls.iter().any(|&call| (10..65_536).contains(&call));
+            if days && high {
+                outcome.after.operation = Operation::Run(Vec::new());
+            }
+        }
+    });
+    let Operation::Run(mut calls) = case.operation else {
+        panic!("{case:?}");
+    };
+    calls.sort();
+    assert_eq!(calls, [10, 65_536]);
+    // a head is never taken apart
+    assert!(case.buffer.len() <= 10, "{:?}", case.buffer);
+}
+
+#[test]
+fn a_list_whose_count_is_wrong_is_shown_with_the_calls_that_are_counted() {
+    let case = shown(|_, outcome| {
+        if let Reply::Run(run) = &mut outcome.reply {
+            run.turned_away += usize::from(run.turned_away >= 2);
+        }
+    });
+    assert_eq!(case.operation, Operation::Run(vec![32_001, 32_001]));
+    assert_eq!(case.buffer, record(0, &[(0, 0, 0)]));
+}
+
+#[test]
+fn a_column_that_is_not_filled_to_its_end_is_shown_alone() {
+    let case = shown(|case, outcome| {
+        if let (Operation::ReadAll(before), Operation::ReadAll(after)) =
+            (&case.operation, &mut outcome.after.operation)
+        {
+            // the second and last element that is filled is left as it was
+            let count = fixes(&case.buffer);
+            if count >= 2 && before.y.len() == count {
+                after.y[count - 1] = before.y[count - 1];
+            }
+        }
+    });
+    let Operation::ReadAll(columns) = case.operation else {
+        panic!("{case:?}");
+    };
+    assert_eq!(columns.lengths(), [0, 0, 2]);
+    // the old number and the new one differ by 1
+    let last = read(&case.buffer).expect("it is accepted").fixes[1].y;
+    assert_eq!((last - columns.y[1]).abs(), 1, "{columns:?}, {last}");
+}
+
+#[test]
+fn a_place_that_the_writer_gets_wrong_is_shown_alone() {
+    let case = shown(|case, outcome| {
+        if let (Operation::Write(Columns { x, .. }), Reply::Answer(answer)) =
+            (&case.operation, &mut outcome.reply)
+        {
+            let far = x.iter().any(|&x| (-16_000..-100).contains(&x));
+            answer.value += u32::from(far && answer.refusal == 0);
+        }
+    });
+    let columns = Columns {
+        t: vec![0],
+        x: vec![-101],
+        y: vec![0],
+    };
+    assert_eq!(case.operation, Operation::Write(columns));
+    assert_eq!(case.buffer, [0; 18]);
+}
+
+#[test]
+fn a_refusal_that_is_missing_is_shown_by_the_fixes_it_takes() {
+    let case = shown(|_, outcome| {
+        if let Reply::Place(place) = &mut outcome.reply {
+            if place.refusal == 8 {
+                place.refusal = 0;
+            }
+        }
+    });
+    assert!(matches!(case.operation, Operation::Place(_)), "{case:?}");
+    assert_eq!(case.buffer, record(0, &[(0, 0, 0), (0, 0, 0)]));
+}
+
+#[test]
+fn a_crossing_that_is_missed_is_shown_by_one_leg() {
+    let case = shown(|_, outcome| {
+        if let Reply::Crossing(Crossed::Yes(time)) = outcome.reply {
+            if time.p % time.q != 0 {
+                outcome.reply = Reply::Crossing(Crossed::No);
+            }
+        }
+    });
+    let fixes = read(&case.buffer).expect("it is accepted").fixes;
+    let times: Vec<u32> = fixes.iter().map(|fix| fix.t).collect();
+    assert_eq!(times, [0, 1]);
+    // a way of 2 along one axis, as 0 to 2 or as -1 to 1, and a box that is one place on it
+    let off = fixes.iter().map(|fix| fix.x.abs() + fix.y.abs());
+    assert_eq!(off.sum::<i16>(), 2, "{fixes:?}");
+    let (Operation::Crosses(question) | Operation::CrossesAfter(_, question)) = case.operation
+    else {
+        panic!("{case:?}");
+    };
+    assert_eq!(question.window, Window { start: 0, end: 1 });
+    let Area {
+        left,
+        right,
+        bottom,
+        top,
+    } = question.area;
+    assert_eq!((left, bottom), (right, top), "{fixes:?}");
+}
+
+#[test]
+fn forms_of_one_fraction_are_equal_and_denominators_have_limits() {
+    let question = Question {
+        window: Window { start: 0, end: 10 },
+        area: Area::new((33, 40), (-5, 5)),
+    };
+    let case = Case {
+        buffer: record(NEVER, &[(0, 0, 0), (10, 100, 0)]),
+        operation: Operation::Crosses(question),
+    };
+    let answer = |numerator, denominator| {
+        Crossed::from(trails_tests::interface::Crossing {
+            refusal: 0,
+            crosses: 1,
+            numerator,
+            denominator,
+        })
+    };
+    let told = proved(&case).reply;
+    for (p, q, equal) in [
+        (33, 10, true),
+        (330, 100, true),
+        (105_600, 32_000, true),
+        (105_930, 32_100, false),
+        (0, 0, false),
+        (34, 10, false),
+    ] {
+        assert_eq!(told == Reply::Crossing(answer(p, q)), equal, "{p}/{q}");
+    }
+}

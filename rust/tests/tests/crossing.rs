@@ -1,0 +1,297 @@
+//! The crossing question: yes with the earliest time, no with nothing, and each refusal.
+#![forbid(unsafe_code)]
+
+use trails_tests::cases::{buffer, Random, Settings, Tally};
+use trails_tests::interface::Crossing;
+use trails_tests::plain::crossing::{Area, Question, Window};
+use trails_tests::plain::place::Time;
+use trails_tests::plain::{Fix, MOST_FIXES};
+use trails_tests::questions::{crosses, refused_in_order, told, Asked as _};
+use trails_tests::shapes::{trail, SHAPES};
+
+// ---- by hand
+
+/// A trail, and its questions: a window, the low and the high edge of x and of y, and the time of a yes.
+struct Row {
+    fixes: &'static [(u32, i16, i16)],
+    asked: &'static [Asked],
+}
+
+type Asked = ((u32, u32), (i32, i32), (i32, i32), Option<(u32, u32)>);
+
+impl Row {
+    fn holds(&self) {
+        let fixes: Vec<Fix> = self.fixes.iter().copied().map(Fix::from).collect();
+        for &((start, end), x, y, time) in self.asked {
+            let question = Question {
+                window: Window { start, end },
+                area: Area::new(x, y),
+            };
+            let name = format!("{fixes:?}, {question:?}");
+            let answer = crosses(&buffer(&fixes), &question, &name);
+            assert_eq!(
+                (answer.refusal, answer.crosses == 1),
+                (0, time.is_some()),
+                "{name}"
+            );
+            if let Some((p, q)) = time {
+                let (p, q) = (p.into(), q.into());
+                let told = told(&answer, &name);
+                assert!(told.order(&Time { p, q }).is_eq(), "{name}: {told:?}");
+            }
+        }
+    }
+}
+
+/// Document 01's trail l.
+const L: Row = Row {
+    fixes: &[(0, 0, 0), (10, 100, 0)],
+    asked: &[
+        ((0, 10), (33, 40), (-5, 5), Some((33, 10))),
+        ((4, 10), (33, 40), (-5, 5), Some((4, 1))),
+        ((5, 10), (33, 40), (-5, 5), None),
+        // windows of one second, whose ends are included
+        ((4, 4), (33, 40), (-5, 5), Some((4, 1))),
+        ((3, 3), (33, 40), (-5, 5), None),
+        ((0, 3), (33, 40), (-5, 5), None),
+        ((3, 4), (33, 40), (-5, 5), Some((33, 10))),
+        // a line, a point, an edge on the trail, and all of these one centimetre off
+        ((0, 10), (33, 33), (-5, 5), Some((33, 10))),
+        ((0, 10), (33, 33), (0, 0), Some((33, 10))),
+        ((0, 10), (33, 33), (1, 1), None),
+        ((0, 10), (33, 40), (0, 5), Some((33, 10))),
+        ((0, 10), (33, 40), (-5, 0), Some((33, 10))),
+        ((0, 10), (33, 40), (1, 5), None),
+        ((0, 10), (33, 40), (-5, -1), None),
+        ((0, 10), (-9, 0), (-5, 5), Some((0, 1))),
+        ((0, 10), (-9, -1), (-5, 5), None),
+        ((0, 10), (100, 100), (0, 0), Some((10, 1))),
+        ((0, 10), (101, 101), (0, 0), None),
+        ((0, 10), (-16_000, 16_000), (-16_000, 16_000), Some((0, 1))),
+    ],
+};
+
+/// Down a slope and up again: corners are touched, and both axes must be in the box at one time.
+const SLOPES: Row = Row {
+    fixes: &[(100, 0, 0), (107, 7, -21), (114, 14, 0)],
+    asked: &[
+        // a corner on the trail, and the corner moved by one
+        ((100, 114), (3, 9), (-9, 5), Some((3, 1))),
+        ((100, 114), (4, 6), (-9, 5), None),
+        ((100, 114), (3, 3), (-9, -9), Some((3, 1))),
+        ((100, 114), (3, 3), (-10, -10), None),
+        // between two fractions: y is in it from 10/3 on and to 11/3, and x from 3 on
+        ((100, 114), (3, 5), (-11, -10), Some((10, 3))),
+        ((103, 104), (3, 5), (-11, -10), Some((10, 3))),
+        ((104, 105), (3, 5), (-11, -10), None),
+        // at the shared fix alone, and on the second leg first
+        ((100, 114), (0, 14), (-30, -21), Some((7, 1))),
+        ((107, 107), (7, 7), (-21, -21), Some((7, 1))),
+        ((100, 106), (7, 7), (-21, -21), None),
+        ((100, 114), (8, 14), (-10, -9), Some((32, 3))),
+        ((108, 114), (0, 14), (-1, 0), Some((41, 3))),
+    ],
+};
+
+/// A cart that stands, goes, and stands again.
+const STANDING: Row = Row {
+    fixes: &[(5, 1, 1), (6, 1, 1), (9, 3, 1), (20, 3, 1)],
+    asked: &[
+        ((5, 20), (1, 1), (1, 1), Some((0, 1))),
+        ((6, 20), (1, 1), (1, 1), Some((1, 1))),
+        ((7, 20), (1, 1), (1, 1), None),
+        ((5, 20), (2, 2), (1, 1), Some((5, 2))),
+        ((5, 20), (3, 3), (1, 1), Some((4, 1))),
+        ((15, 20), (3, 3), (1, 1), Some((10, 1))),
+        ((5, 20), (0, 9), (2, 9), None),
+    ],
+};
+
+const LONE: Row = Row {
+    fixes: &[(u32::MAX, -16_000, 16_000)],
+    asked: &[
+        (
+            (u32::MAX, u32::MAX),
+            (-16_000, -16_000),
+            (16_000, 16_000),
+            Some((0, 1)),
+        ),
+        (
+            (u32::MAX, u32::MAX),
+            (-16_000, 16_000),
+            (-16_000, 16_000),
+            Some((0, 1)),
+        ),
+        (
+            (u32::MAX, u32::MAX),
+            (-15_999, 16_000),
+            (-16_000, 16_000),
+            None,
+        ),
+        (
+            (u32::MAX, u32::MAX),
+            (-16_000, 16_000),
+            (-16_000, 15_999),
+            None,
+        ),
+    ],
+};
+
+/// The largest numbers of every kind: the longest span at the end of the clock, from wall to wall.
+const WALLS: Row = Row {
+    fixes: &[
+        (4_294_901_760, -16_000, 16_000),
+        (4_294_967_295, 16_000, -16_000),
+    ],
+    asked: &[
+        (
+            (4_294_901_760, u32::MAX),
+            (16_000, 16_000),
+            (-16_000, -16_000),
+            Some((65_535, 1)),
+        ),
+        (
+            (4_294_901_760, u32::MAX - 1),
+            (16_000, 16_000),
+            (-16_000, -16_000),
+            None,
+        ),
+        // 65,535 · 31,999 / 32,000
+        (
+            (4_294_901_760, u32::MAX),
+            (15_999, 16_000),
+            (-16_000, 16_000),
+            Some((2_097_054_465, 32_000)),
+        ),
+        (
+            (4_294_901_760, u32::MAX),
+            (-16_000, 16_000),
+            (-16_000, -15_999),
+            Some((2_097_054_465, 32_000)),
+        ),
+        (
+            (4_294_901_760, u32::MAX),
+            (-15_999, 16_000),
+            (-16_000, 16_000),
+            Some((65_535, 32_000)),
+        ),
+        ((4_294_901_760, u32::MAX), (1, 16_000), (0, 16_000), None),
+        (
+            (4_294_901_760, u32::MAX),
+            (0, 16_000),
+            (0, 16_000),
+            Some((65_535, 2)),
+        ),
+    ],
+};
+
+#[test]
+fn trails_worked_by_hand() {
+    [L, SLOPES, STANDING, LONE, WALLS]
+        .iter()
+        .for_each(Row::holds);
+}
+
+// ---- by chance
+
+/// How many answers were no, yes at the window's start, yes later at a whole second, and yes at a fraction, so that
+/// none of these can be missing unseen.
+#[derive(Default)]
+struct Kinds([usize; 4]);
+
+impl Kinds {
+    fn count(&mut self, answer: &Crossing, fixes: &[Fix], window: Window, name: &str) {
+        let kind = if answer.crosses == 0 {
+            0
+        } else {
+            let time = told(answer, name);
+            let start = Time::whole(window.start).since(fixes[0].t);
+            match (time.order(&start).is_eq(), time.p % time.q) {
+                (true, _) => 1,
+                (false, 0) => 2,
+                (false, _) => 3,
+            }
+        };
+        self.0[kind] += 1;
+    }
+
+    fn expect_all(&self) {
+        let [no, start, whole, fraction] = self.0;
+        println!("crossing: {no} no, {start} at the window's start, {whole} later at a second, {fraction} between");
+        assert!(self.0.iter().all(|&many| many > 0));
+    }
+}
+
+#[test]
+fn trails_of_every_shape_are_answered_as_the_plain_version_does() {
+    let settings = Settings::get();
+    let mut random = Random::new(settings.seed);
+    let mut kinds = Kinds::default();
+    for k in 0..settings.cases {
+        let shape = SHAPES[k % SHAPES.len()];
+        let n = random.between(1, if k.is_multiple_of(20) { 400 } else { 12 });
+        let fixes = trail(shape, n as usize, &mut random);
+        let bytes = buffer(&fixes);
+        let name = format!("seed {}: {shape:?}, {n} fixes", settings.seed);
+        for _ in 0..10 {
+            let question = Question::good(&fixes, &mut random);
+            let answer = crosses(&bytes, &question, &name);
+            assert_eq!(answer.refusal, 0, "{name}, {question:?}");
+            kinds.count(&answer, &fixes, question.window, &name);
+        }
+    }
+    kinds.expect_all();
+}
+
+#[test]
+fn the_longest_trails_are_answered_as_the_plain_version_does() {
+    let mut random = Random::new(Settings::get().seed);
+    let mut kinds = Kinds::default();
+    for shape in SHAPES {
+        let fixes = trail(shape, MOST_FIXES, &mut random);
+        let bytes = buffer(&fixes);
+        let name = format!("{shape:?}, the longest");
+        for _ in 0..100 {
+            let question = Question::good(&fixes, &mut random);
+            let answer = crosses(&bytes, &question, &name);
+            kinds.count(&answer, &fixes, question.window, &name);
+        }
+    }
+    kinds.expect_all();
+}
+
+/// All boxes of a small grid, and all windows, on small trails: every way to touch is among them.
+#[test]
+fn every_small_box_and_window() {
+    let settings = Settings::get();
+    let mut random = Random::new(settings.seed);
+    let ranges = |from: i32, to: i32| (from..=to).flat_map(move |a| (a..=to).map(move |b| (a, b)));
+    for _ in 0..settings.cases / 200 {
+        let mut coordinate = || random.between(-2, 2) as i16;
+        let mut small = |t| (t, coordinate(), coordinate());
+        let fixes = [small(0), small(1), small(3)].map(Fix::from);
+        let bytes = buffer(&fixes);
+        for x in ranges(-2, 2) {
+            for y in ranges(-2, 2) {
+                for (start, end) in ranges(0, 3) {
+                    let (start, end) = (start as u32, end as u32);
+                    let window = Window { start, end };
+                    let area = Area::new(x, y);
+                    crosses(&bytes, &Question { window, area }, "small");
+                }
+            }
+        }
+    }
+}
+
+// ---- refused
+
+#[test]
+fn each_refusal_is_given_in_order() {
+    let mut tally = Tally::default();
+    let faults: [&[u8]; 4] = [&[], &[14], &[13], &[14, 13]];
+    refused_in_order(&faults, &mut tally, |record, question, name| {
+        crosses(record, question, name).refusal
+    });
+    tally.expect("crossing", &[1, 2, 3, 4, 5, 6, 7, 8, 9, 13, 14]);
+}

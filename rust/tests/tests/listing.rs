@@ -1,0 +1,153 @@
+//! The listing program, run on whole inputs and in small pieces.
+#![forbid(unsafe_code)]
+
+use trails_tests::cases::{Cases, Draft, Random, Settings};
+use trails_tests::interface::{self, LONGEST_TEXT};
+use trails_tests::plain::{self, Fix, LONGEST, MOST_FIXES};
+use trails_tests::programs::{printed, proved};
+
+fn lists_as(input: &[u8], piece: usize, text: &str, what: &str) {
+    let printed = printed(&proved("listing"), input, piece);
+    let listed = String::from_utf8_lossy(&printed);
+    assert!(
+        listed == text,
+        "{what}, in pieces of {piece}:\n{listed}instead of\n{text}"
+    );
+}
+
+fn lists_like_plain(input: &[u8], piece: usize, what: &str) {
+    lists_as(input, piece, &plain::listing(input), what);
+}
+
+/// Inputs with their text, both by hand.
+const STORED: [(&str, &str); 17] = [
+    (
+        "12 00 00 00 01 00 FF FF 01 00 E8 03 00 00 FF FF 02 00",
+        "trail 1 never\nfix 1000 -1 2\nend\n",
+    ),
+    (
+        "12 00 00 00 01 00 FF FF 01 00 E8 03 00 00 FF FF 02 00 12 00 00",
+        "trail 1 never\nfix 1000 -1 2\nend\n",
+    ),
+    (
+        "12 00 00 00 01 00 00 00 01 00 00 00 00 00 00 00 00 00",
+        "trail 1 0\nfix 0 0 0\nend\n",
+    ),
+    (
+        "1A 00 00 00 01 00 00 7D 02 00 00 00 FF FF 80 3E 80 C1 FF FF FF FF 80 C1 80 3E",
+        "trail 2 32000\nfix 4294901760 16000 -16000\nfix 4294967295 -16000 16000\nend\n",
+    ),
+    ("", "refused 1\n"),
+    ("12 00 00 00 01 00 FF FF 01", "refused 1\n"),
+    ("12 00 00 00 02 00 FF FF 01 00", "refused 2\n"),
+    ("0A 00 00 00 01 00 FF FF 00 00", "refused 3\n"),
+    ("12 80 00 00 01 00 FF FF 01 10", "refused 3\n"),
+    ("13 00 00 00 01 00 FF FF 01 00", "refused 4\n"),
+    ("12 00 00 00 01 00 FF FF 01 00", "refused 5\n"),
+    (
+        "12 00 00 00 01 00 01 7D 01 00 E8 03 00 00 FF FF 02 00",
+        "refused 6\n",
+    ),
+    (
+        "12 00 00 00 01 00 FF FF 01 00 E8 03 00 00 81 3E 02 00",
+        "refused 7\n",
+    ),
+    (
+        "12 00 00 00 01 00 FF FF 01 00 E8 03 00 00 00 00 7F C1",
+        "refused 7\n",
+    ),
+    (
+        "1A 00 00 00 01 00 FF FF 02 00 E8 03 00 00 00 00 00 00 E8 03 00 00 00 00 00 00",
+        "refused 8\n",
+    ),
+    (
+        "1A 00 00 00 01 00 FF FF 02 00 00 00 00 00 00 00 00 00 00 00 01 00 00 00 00 00",
+        "refused 9\n",
+    ),
+    (
+        "1A 00 00 00 01 00 FF FF 02 00 00 00 00 00 00 00 00 00 FF FF 00 00 00 00 00 00",
+        "trail 2 never\nfix 0 0 0\nfix 65535 0 0\nend\n",
+    ),
+];
+
+fn bytes(hex: &str) -> Vec<u8> {
+    let byte = |digits| u8::from_str_radix(digits, 16).expect("two digits");
+    hex.split_whitespace().map(byte).collect()
+}
+
+#[test]
+fn stored_inputs_give_their_text() {
+    for (hex, text) in STORED {
+        let input = bytes(hex);
+        assert_eq!(plain::listing(&input), text, "the plain version, {hex}");
+        for piece in [1, 7, LONGEST] {
+            lists_as(&input, piece, text, hex);
+        }
+    }
+}
+
+#[test]
+fn long_inputs_are_read_to_the_last_byte_of_the_longest_record_and_no_further() {
+    let settings = Settings::get();
+    let mut random = Random::new(settings.seed);
+    for after in [0, 1, 8, LONGEST, 1_000_000] {
+        let mut draft = Draft::accepted(&mut random, MOST_FIXES);
+        draft.tail = random.bytes(after);
+        let what = format!("seed {}: the longest and {after} more", settings.seed);
+        for piece in [999, LONGEST - 1, 1 << 20] {
+            lists_like_plain(&draft.bytes(), piece, &what);
+        }
+        draft.tail.clear();
+        draft.lent = Some(LONGEST - 1);
+        lists_like_plain(&draft.bytes(), 4_096, &what);
+    }
+}
+
+#[test]
+fn the_longest_text_is_printed_whole() {
+    let place = |t| Fix {
+        t,
+        x: -16_000,
+        y: -16_000,
+    };
+    let first = u32::MAX - (MOST_FIXES as u32 - 1);
+    let fixes = (first..=u32::MAX).map(place).collect();
+    let input = Draft::new(fixes, 32_000, Vec::new()).bytes();
+    // two lines of 17 and 4 bytes, and 29 bytes a fix, each number as long as it can be
+    assert_eq!(plain::listing(&input).len(), 17 + 29 * MOST_FIXES + 4);
+    lists_like_plain(&input, LONGEST, "the longest text");
+}
+
+#[test]
+fn random_records_are_listed_as_the_plain_version_does() {
+    let settings = Settings::get();
+    // a program's start is slow beside a call, so only some of the cases are run
+    let every = 1 + settings.cases / 250;
+    let mut random = Random::new(settings.seed);
+    let cases = Cases::all(settings);
+    for case in cases.iter().step_by(every) {
+        let piece = random
+            .pick(&[1, 3, 10, 64, 1 << 16])
+            .max(case.bytes.len() / 100);
+        lists_like_plain(&case.bytes, piece.max(1), &case.name);
+    }
+    println!("listing: {} of {} cases", cases.len() / every, cases.len());
+}
+
+#[test]
+fn the_interface_lists_every_case_and_leaves_the_rest_of_the_output() {
+    let cases = Cases::all(Settings::get());
+    let mut output = [0x5A; LONGEST_TEXT];
+    for case in cases.iter() {
+        let length = interface::list(&case.bytes, &mut output);
+        let (text, rest) = output.split_at(length);
+        assert_eq!(
+            text,
+            plain::listing(&case.bytes).as_bytes(),
+            "{}",
+            case.name
+        );
+        assert!(rest.iter().all(|&byte| byte == 0x5A), "{}", case.name);
+        output[..length].fill(0x5A);
+    }
+}

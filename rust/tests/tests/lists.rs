@@ -1,0 +1,124 @@
+//! Lists of agings, in any order and with refused ones among them: what is left is the original thinned once, at the
+//! greatest tolerance that was applied.
+#![forbid(unsafe_code)]
+
+use trails_tests::agings::{some_calls, stays_near, Buffer};
+use trails_tests::cases::{Cases, Random, Settings, Tally};
+use trails_tests::expected;
+use trails_tests::interface::run;
+use trails_tests::plain::lists::{Book, Call};
+use trails_tests::plain::{Fix, MOST_FIXES};
+use trails_tests::shapes::{trail, SHAPES};
+
+/// Makes the calls one after the other on one buffer. The claim is about whole lists, and each beginning of a list
+/// is one.
+fn ages(name: String, fixes: &[Fix], calls: &[Call], random: &mut Random) {
+    let mut buffer = Buffer::never_thinned(name, fixes, random);
+    let mut book = Book::of(fixes);
+    assert_eq!(buffer.trail(), book.expected(), "{}", buffer.name);
+    for &call in calls {
+        buffer.age(call);
+        book.feed(call);
+        assert_eq!(buffer.trail(), book.expected(), "{}", buffer.name);
+    }
+    let aged = buffer.trail().fixes;
+    let e = book.e.unwrap_or(0);
+    stays_near(fixes, &aged, e, &buffer.name, random);
+}
+
+#[test]
+fn any_list_leaves_the_original_thinned_at_the_greatest() {
+    let settings = Settings::get();
+    let mut random = Random::new(settings.seed);
+    for k in 0..settings.cases {
+        let shape = SHAPES[k % SHAPES.len()];
+        let n = random.between(1, if k.is_multiple_of(20) { 400 } else { 60 });
+        let fixes = trail(shape, n as usize, &mut random);
+        let calls = some_calls(&mut random);
+        let name = format!("seed {}: {shape:?}, {n} fixes, {calls:?}", settings.seed);
+        ages(name, &fixes, &calls, &mut random);
+    }
+}
+
+#[test]
+fn so_do_lists_on_the_longest_trails() {
+    let mut random = Random::new(Settings::get().seed);
+    let calls = [
+        Call::Days(2),
+        Call::Tolerance(3),
+        Call::Tolerance(32_001),
+        Call::Days(30),
+        Call::Days(1),
+        Call::Tolerance(60),
+        Call::Days(90),
+    ];
+    for shape in SHAPES {
+        let fixes = trail(shape, MOST_FIXES, &mut random);
+        let name = format!("{shape:?}, the longest, {calls:?}");
+        ages(name, &fixes, &calls, &mut random);
+    }
+}
+
+/// Every order of the calls.
+fn orders(calls: &[Call]) -> Vec<Vec<Call>> {
+    let Some((&first, rest)) = calls.split_first() else {
+        return vec![Vec::new()];
+    };
+    let mut all = Vec::new();
+    for order in orders(rest) {
+        for at in 0..=order.len() {
+            let mut longer = order.clone();
+            longer.insert(at, first);
+            all.push(longer);
+        }
+    }
+    all
+}
+
+#[test]
+fn every_order_of_the_same_calls_is_a_list() {
+    let mut random = Random::new(Settings::get().seed);
+    let calls = [
+        Call::Tolerance(5),
+        Call::Days(7),
+        Call::Tolerance(32_001),
+        Call::Days(1),
+        Call::Tolerance(25),
+    ];
+    for shape in SHAPES {
+        let fixes = trail(shape, 100, &mut random);
+        for order in orders(&calls) {
+            let name = format!("{shape:?}, {order:?}");
+            ages(name, &fixes, &order, &mut random);
+        }
+    }
+}
+
+/// As one call: it tells why the record is refused, and then nothing is done; or how many calls were turned away.
+#[test]
+fn a_list_as_one_call_tells_what_became_of_it() {
+    let settings = Settings::get();
+    let mut random = Random::new(settings.seed);
+    let mut tally = Tally::default();
+    let mut most = 0;
+    for case in Cases::all(settings) {
+        let calls = some_calls(&mut random);
+        let numbers: Vec<u32> = calls.iter().map(|call| call.number(&mut random)).collect();
+        let name = format!("{}, {calls:?}", case.name);
+        let (mut bytes, mut plain) = (case.bytes.clone(), case.bytes.clone());
+        let told = run(&mut bytes, &numbers);
+        assert_eq!(told, expected::run(&mut plain, &numbers), "{name}");
+        assert!(bytes == plain, "{name}: other bytes");
+        if let Some(known) = case.known {
+            assert_eq!(told.refusal, known.into(), "{name}");
+        }
+        if told.refusal != 0 {
+            assert_eq!((told.turned_away, &bytes), (0, &case.bytes), "{name}");
+        }
+        tally.count(told.refusal);
+        most = most.max(told.turned_away);
+    }
+    tally.expect("list", &[1, 2, 3, 4, 5, 6, 7, 8, 9]);
+    println!("list: up to {most} calls turned away");
+    assert!(most > 1);
+}

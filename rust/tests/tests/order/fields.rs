@@ -1,0 +1,92 @@
+//! The structs that functions answer: where Rust has their fields, and an answer as a list of numbers.
+
+use std::mem::{offset_of, size_of};
+
+use trails_tests::interface::{Answer, Crossing, Head, Place, Run, Step};
+use trails_tests::plain::place::Time;
+
+/// A struct of the header, and where Rust has its fields.
+pub struct Layout {
+    pub c: &'static str,
+    pub rust: &'static str,
+    pub size: usize,
+    pub fields: Vec<(&'static str, usize)>,
+}
+
+macro_rules! layout {
+    ($c:literal, $rust:ident: $($field:ident),+) => {
+        Layout {
+            c: $c,
+            rust: stringify!($rust),
+            size: size_of::<$rust>(),
+            fields: vec![$((stringify!($field), offset_of!($rust, $field))),+],
+        }
+    };
+}
+
+pub fn layouts() -> [Layout; 6] {
+    [
+        layout!("trails_head", Head: refusal, count, mark),
+        layout!("trails_step", Step: refusal, found, t, x, y),
+        layout!("trails_answer", Answer: refusal, value),
+        layout!("trails_run", Run: refusal, turned_away),
+        layout!("trails_place", Place: refusal, denominator, x, y, whole_x, whole_y),
+        layout!("trails_crossing", Crossing: refusal, crosses, numerator, denominator),
+    ]
+}
+
+pub fn of_head(head: Head) -> Vec<i64> {
+    vec![head.refusal.into(), head.count.into(), head.mark.into()]
+}
+
+pub fn of_step(step: Step) -> Vec<i64> {
+    let place = [step.x.into(), step.y.into()];
+    [
+        &[step.refusal, step.found, step.t].map(i64::from)[..],
+        &place,
+    ]
+    .concat()
+}
+
+pub fn of_answer(answer: Answer) -> Vec<i64> {
+    vec![answer.refusal.into(), answer.value.into()]
+}
+
+pub fn of_run(run: Run) -> Vec<i64> {
+    vec![run.refusal.into(), run.turned_away as i64]
+}
+
+pub fn of_place(place: Place) -> Vec<i64> {
+    vec![
+        place.refusal.into(),
+        place.denominator.into(),
+        place.x,
+        place.y,
+        place.whole_x.into(),
+        place.whole_y.into(),
+    ]
+}
+
+pub fn of_crossing(answer: Crossing) -> Vec<i64> {
+    let fields = [
+        answer.refusal,
+        answer.crosses,
+        answer.numerator,
+        answer.denominator,
+    ];
+    by_value(&fields.map(i64::from))
+}
+
+pub fn of_time(result: Result<Option<Time>, u8>) -> Vec<i64> {
+    match result {
+        Err(number) => vec![number.into(), 0, 0],
+        Ok(None) => vec![0, 0, 0],
+        Ok(Some(time)) => vec![0, 1, (1_000 * time.p / time.q) as i64],
+    }
+}
+
+/// A crossing's fields, with its time in thousandths, since the form of the fraction is free.
+pub fn by_value(fields: &[i64]) -> Vec<i64> {
+    let time = (1_000 * fields[2]).checked_div(fields[3]);
+    vec![fields[0], fields[1], time.unwrap_or(0)]
+}

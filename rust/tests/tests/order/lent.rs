@@ -1,0 +1,105 @@
+//! All that a call is lent and given, a value for each name of a parameter, and what is there afterwards.
+//!
+//! No two values are so that exchanging them goes unseen, where their types would allow it.
+
+use trails_tests::columns::Columns;
+use trails_tests::interface::LONGEST_TEXT;
+use trails_tests::plain::crossing::{Area, Question, Window};
+use trails_tests::plain::{record, Fix, NEVER};
+
+pub const POSITION: usize = 1;
+pub const TOLERANCE: u16 = 12;
+pub const DAYS: u16 = 7;
+pub const SECOND: u32 = 103;
+pub const THOUSANDTHS: u16 = 250;
+pub const OUTPUT_BYTES: usize = 40;
+
+/// A tolerance, one that is turned away, and days.
+pub const CALLS: [u32; 3] = [12, 40_000, 65_536 + 7];
+
+/// How many elements are lent of each column. All have one more than the longest, so that exchanging two of these
+/// numbers reaches no byte that isn't there.
+pub const COUNTS: [usize; 3] = [1, 2, 3];
+
+/// The cart comes to the box from below, after it was beside it and under it: in the boxes that two exchanged edges give
+/// it is earlier or never.
+const FIXES: [(u32, i16, i16); 3] = [(100, 70, 40), (110, 45, 10), (120, 45, 60)];
+
+pub const QUESTION: Question = Question {
+    window: Window {
+        start: 101,
+        end: 119,
+    },
+    area: Area {
+        left: 10,
+        right: 50,
+        bottom: 30,
+        top: 80,
+    },
+};
+
+/// What stands in the columns beforehand, and is a list to write.
+const COLUMNS: [(u32, i16, i16); 4] = [(7, 1, -5), (8, 2, -6), (9, 3, -7), (10, 4, -8)];
+
+/// The argument of each parameter, for C.
+pub fn arguments() -> Vec<(&'static str, String)> {
+    let Question { window, area } = QUESTION;
+    let [t, x, y] = COUNTS;
+    let lent = ["record", "t", "x", "y", "output", "calls"];
+    let mut all: Vec<_> = lent.map(|name| (name, name.to_string())).into();
+    all.extend([
+        ("lent", "sizeof record".to_string()),
+        ("position", POSITION.to_string()),
+        ("t_count", t.to_string()),
+        ("x_count", x.to_string()),
+        ("y_count", y.to_string()),
+        ("output_bytes", OUTPUT_BYTES.to_string()),
+        ("tolerance", TOLERANCE.to_string()),
+        ("days", DAYS.to_string()),
+        ("second", SECOND.to_string()),
+        ("thousandths", THOUSANDTHS.to_string()),
+        ("call_count", CALLS.len().to_string()),
+        ("start", window.start.to_string()),
+        ("end", window.end.to_string()),
+        ("left", area.left.to_string()),
+        ("right", area.right.to_string()),
+        ("bottom", area.bottom.to_string()),
+        ("top", area.top.to_string()),
+    ]);
+    all
+}
+
+/// All that is lent to be written.
+pub struct Lent {
+    pub record: Vec<u8>,
+    pub columns: Columns,
+    pub output: Box<[u8; LONGEST_TEXT]>,
+}
+
+impl Lent {
+    pub fn new() -> Lent {
+        let output = vec![0; LONGEST_TEXT].into_boxed_slice();
+        Lent {
+            record: record(NEVER, &FIXES.map(Fix::from)),
+            columns: Columns::of(&COLUMNS.map(Fix::from)),
+            output: output.try_into().expect("it has that length"),
+        }
+    }
+
+    /// The parts of the columns that are lent.
+    pub fn lent_columns(&mut self) -> (&mut [u32], &mut [i16], &mut [i16]) {
+        let Columns { t, x, y } = &mut self.columns;
+        let [a, b, c] = COUNTS;
+        (&mut t[..a], &mut x[..b], &mut y[..c])
+    }
+
+    /// Everything as numbers, in the order in which the C program prints it.
+    pub fn numbers(&self) -> Vec<i64> {
+        let Columns { t, x, y } = &self.columns;
+        let mut all: Vec<i64> = self.record.iter().map(|&n| n.into()).collect();
+        all.extend(t.iter().map(|&n| i64::from(n)));
+        all.extend(x.iter().chain(y).map(|&n| i64::from(n)));
+        all.extend(self.output[..OUTPUT_BYTES].iter().map(|&n| i64::from(n)));
+        all
+    }
+}

@@ -1,0 +1,172 @@
+//! The order of the interface's parameters and fields is seen by no proof: a contract knows each by its name, and a caller
+//! by its place. So here every function is called with a value for each name: from C, in the order in which the header
+//! names the parameters, and from Rust. The plain version says what must come of it.
+#![forbid(unsafe_code)]
+
+mod declared;
+mod fields;
+mod in_c;
+mod lent;
+
+use declared::{in_header, in_rust, Function};
+use fields::{
+    layouts, of_answer, of_crossing, of_head, of_place, of_run, of_step, of_time, Layout,
+};
+use in_c::{from_c, printed, InC};
+use lent::{Lent, CALLS, DAYS, OUTPUT_BYTES, POSITION, QUESTION, SECOND, THOUSANDTHS, TOLERANCE};
+use trails_tests::columns::Columns;
+use trails_tests::plain::lists::{self, Call};
+use trails_tests::plain::{self, crossing};
+use trails_tests::{expected, interface};
+
+#[test]
+fn fields_stand_where_the_header_puts_them() {
+    let (mut source, mut want) = (String::from("int main(void) {\n"), String::new());
+    for Layout {
+        c, size, fields, ..
+    } in layouts()
+    {
+        source += &format!("printf(\"{c} %zu\\n\", sizeof(struct {c}));\n");
+        want += &format!("{c} {size}\n");
+        for (field, offset) in fields {
+            source += &format!("printf(\"{field} %zu\\n\", offsetof(struct {c}, {field}));\n");
+            want += &format!("{field} {offset}\n");
+        }
+    }
+    assert_eq!(printed("fields", &(source + "return 0;\n}\n")), want);
+}
+
+/// What the plain version answers to a function, with all that was lent after it.
+fn plainly(name: &str) -> Vec<i64> {
+    let mut lent = Lent::new();
+    let record = &mut lent.record;
+    let calls = Call::all_of(&CALLS);
+    let answer = match name {
+        "trails_check" => of_head(expected::check(record)),
+        "trails_read" => of_step(expected::read(record, POSITION)),
+        "trails_read_all" => plain_read_all(&mut lent),
+        "trails_write" => plain_write(&mut lent),
+        "trails_list" => {
+            let text = plain::listing(record).into_bytes();
+            lent.output[..text.len()].copy_from_slice(&text);
+            vec![text.len() as i64]
+        }
+        "trails_age" => of_answer(expected::aging(record, Call::Tolerance(TOLERANCE))),
+        "trails_age_by_days" => of_answer(expected::aging(record, Call::Days(DAYS))),
+        "trails_place" => of_place(expected::place(record, SECOND, THOUSANDTHS)),
+        "trails_crosses" => of_time(crossing::crosses(record, &QUESTION)),
+        "trails_run" => of_run(expected::run(record, &CALLS)),
+        "trails_crosses_after" => of_time(lists::crosses_after(record, &calls, &QUESTION)),
+        other => panic!("{other} isn't tried here"),
+    };
+    [answer, lent.numbers()].concat()
+}
+
+fn plain_columns(lent: &mut Lent) -> Columns {
+    let (t, x, y) = lent.lent_columns();
+    let (t, x, y) = (t.to_vec(), x.to_vec(), y.to_vec());
+    Columns { t, x, y }
+}
+
+fn plain_read_all(lent: &mut Lent) -> Vec<i64> {
+    let mut columns = plain_columns(lent);
+    let answer = expected::read_all(&lent.record, &mut columns);
+    let (t, x, y) = lent.lent_columns();
+    t.copy_from_slice(&columns.t);
+    x.copy_from_slice(&columns.x);
+    y.copy_from_slice(&columns.y);
+    of_answer(answer)
+}
+
+fn plain_write(lent: &mut Lent) -> Vec<i64> {
+    let list = plain_columns(lent).fixes();
+    of_answer(expected::write(&list, &mut lent.output[..OUTPUT_BYTES]))
+}
+
+/// What the proved functions answer when Rust calls them.
+fn from_rust(name: &str) -> Vec<i64> {
+    let mut lent = Lent::new();
+    let mut other = Lent::new();
+    let record = &mut lent.record;
+    let answer = match name {
+        "trails_check" => of_head(interface::check(record)),
+        "trails_read" => of_step(interface::read(record, POSITION)),
+        "trails_read_all" => {
+            let (t, x, y) = lent.lent_columns();
+            of_answer(trails::interface::read_all(&other.record, t, x, y))
+        }
+        "trails_write" => {
+            let (t, x, y) = other.lent_columns();
+            let output = &mut lent.output[..OUTPUT_BYTES];
+            of_answer(interface::write(t, x, y, output))
+        }
+        "trails_list" => vec![interface::list(record, &mut lent.output) as i64],
+        "trails_age" => of_answer(interface::age(record, TOLERANCE)),
+        "trails_age_by_days" => of_answer(interface::age_by_days(record, DAYS)),
+        "trails_place" => of_place(interface::place(record, SECOND, THOUSANDTHS)),
+        "trails_crosses" => of_crossing(interface::crosses(record, &QUESTION)),
+        "trails_run" => of_run(interface::run(record, &CALLS)),
+        "trails_crosses_after" => of_crossing(interface::crosses_after(record, &CALLS, &QUESTION)),
+        other => panic!("{other} isn't tried here"),
+    };
+    [answer, lent.numbers()].concat()
+}
+
+#[test]
+fn the_declarations_for_rust_are_the_headers() {
+    assert_eq!(in_rust(), in_header());
+}
+
+#[test]
+fn c_calls_in_the_headers_order_are_answered_as_the_plain_version_does() {
+    let calls: Vec<InC> = in_header().into_iter().map(InC::of).collect();
+    for (call, numbers) in calls.iter().zip(from_c("calls", &calls)) {
+        let name = &call.function.name;
+        assert_eq!(numbers, plainly(name), "{name}");
+    }
+}
+
+#[test]
+fn rust_calls_are_answered_as_the_plain_version_does() {
+    for Function { name, .. } in in_header() {
+        assert_eq!(from_rust(&name), plainly(&name), "{name}");
+    }
+}
+
+/// The function with each two of its arguments exchanged whose types allow it.
+fn exchanged(function: &Function) -> Vec<InC> {
+    let mut all = Vec::new();
+    for (k, one) in function.parameters.iter().enumerate() {
+        for (j, other) in function.parameters.iter().enumerate().skip(k + 1) {
+            if one.kind == other.kind {
+                let mut call = InC::of(function.clone());
+                call.arguments.swap(k, j);
+                all.push(call);
+            }
+        }
+    }
+    all
+}
+
+/// So that the values are no accident: with any two exchanged, something else comes of the call. Of the writer's columns
+/// the shortest counts, whichever it is, so of their three lengths no exchange is seen by calls.
+#[test]
+fn each_exchange_of_two_arguments_would_be_seen() {
+    let calls: Vec<InC> = in_header().iter().flat_map(exchanged).collect();
+    let unseen: Vec<String> = calls
+        .iter()
+        .zip(from_c("exchanged", &calls))
+        .filter(|(call, numbers)| *numbers == plainly(&call.function.name))
+        .map(|(call, _)| call.arguments.join(", "))
+        .collect();
+    let writers = ["t, 2, x, 1, y, 3", "t, 3, x, 2, y, 1", "t, 1, x, 3, y, 2"];
+    assert_eq!(
+        unseen,
+        writers.map(|columns| format!("{columns}, output, 40"))
+    );
+    println!(
+        "order: {} exchanges, {} seen",
+        calls.len(),
+        calls.len() - unseen.len()
+    );
+}

@@ -1,0 +1,175 @@
+//! The place question: the fraction as document 01 has it, the rounded place beside it, and each refusal.
+#![forbid(unsafe_code)]
+
+use trails_tests::cases::{buffer, Random, Settings, Tally};
+use trails_tests::interface::Place;
+use trails_tests::plain::{Fix, MOST_FIXES};
+use trails_tests::questions::{place, refused_in_order, Asked as _, Moment};
+use trails_tests::shapes::{trail, SHAPES};
+
+/// The rounded number is the nearest one to n/d, and of two that are as near the upper.
+fn is_nearest(whole: i32, n: i64, d: u32, name: &str) {
+    let (whole, n, d) = (i128::from(whole), i128::from(n), i128::from(d));
+    let off = 2 * (whole * d - n);
+    assert!(-d < off && off <= d, "{name}: {whole} for {n} / {d}");
+}
+
+/// What must hold of an answer that isn't a refusal, besides being as the plain version has it.
+fn is_rounded(answer: &Place, name: &str) {
+    assert_eq!(answer.refusal, 0, "{name}");
+    is_nearest(answer.whole_x, answer.x, answer.denominator, name);
+    is_nearest(answer.whole_y, answer.y, answer.denominator, name);
+}
+
+/// A trail, a moment, and the place by hand.
+struct Row {
+    fixes: &'static [(u32, i16, i16)],
+    moment: (u32, u16),
+    fraction: (i64, i64, u32),
+    whole: (i32, i32),
+}
+
+const fn row(
+    fixes: &'static [(u32, i16, i16)],
+    moment: (u32, u16),
+    fraction: (i64, i64, u32),
+    whole: (i32, i32),
+) -> Row {
+    Row {
+        fixes,
+        moment,
+        fraction,
+        whole,
+    }
+}
+
+const K: &[(u32, i16, i16)] = &[(0, 0, 0), (10, 5, -5)];
+const LEGS: &[(u32, i16, i16)] = &[(100, 1, 2), (101, 3, 2), (103, 3, 8)];
+const WALLS: &[(u32, i16, i16)] = &[
+    (4_294_901_760, -16_000, 16_000),
+    (4_294_967_295, 16_000, -16_000),
+];
+const LONE: &[(u32, i16, i16)] = &[(u32::MAX, 16_000, -16_000)];
+
+const ROWS: [Row; 14] = [
+    // document 01's trail k, where halves go upward on both sides of 0, and what is next to halves
+    row(K, (1, 0), (5_000, -5_000, 10_000), (1, 0)),
+    row(K, (0, 999), (4_995, -4_995, 10_000), (0, 0)),
+    row(K, (1, 1), (5_005, -5_005, 10_000), (1, -1)),
+    row(K, (3, 0), (15_000, -15_000, 10_000), (2, -1)),
+    row(K, (0, 0), (0, 0, 10_000), (0, 0)),
+    row(K, (10, 0), (50_000, -50_000, 10_000), (5, -5)),
+    // at a fix that two legs share, the leg is the one that ends there
+    row(LEGS, (100, 0), (1_000, 2_000, 1_000), (1, 2)),
+    row(LEGS, (101, 0), (3_000, 2_000, 1_000), (3, 2)),
+    row(LEGS, (101, 1), (6_000, 4_006, 2_000), (3, 2)),
+    row(LEGS, (103, 0), (6_000, 16_000, 2_000), (3, 8)),
+    // the largest numbers of every kind
+    row(
+        WALLS,
+        (4_294_901_760, 0),
+        (-1_048_560_000_000, 1_048_560_000_000, 65_535_000),
+        (-16_000, 16_000),
+    ),
+    row(
+        WALLS,
+        (4_294_967_295, 0),
+        (1_048_560_000_000, -1_048_560_000_000, 65_535_000),
+        (16_000, -16_000),
+    ),
+    row(WALLS, (4_294_934_527, 500), (0, 0, 65_535_000), (0, 0)),
+    row(LONE, (u32::MAX, 0), (16_000, -16_000, 1), (16_000, -16_000)),
+];
+
+#[test]
+fn trails_worked_by_hand() {
+    for row in &ROWS {
+        let fixes: Vec<Fix> = row.fixes.iter().copied().map(Fix::from).collect();
+        let (second, thousandths) = row.moment;
+        let moment = Moment {
+            second,
+            thousandths,
+        };
+        let name = format!("{fixes:?}");
+        let answer = place(&buffer(&fixes), moment, &name);
+        let fraction = (answer.x, answer.y, answer.denominator);
+        assert_eq!(fraction, row.fraction, "{name}, {moment:?}");
+        let whole = (answer.whole_x, answer.whole_y);
+        assert_eq!(whole, row.whole, "{name}, {moment:?}");
+    }
+}
+
+#[test]
+fn trails_of_every_shape_are_answered_as_the_plain_version_does() {
+    let settings = Settings::get();
+    let mut random = Random::new(settings.seed);
+    for k in 0..settings.cases {
+        let shape = SHAPES[k % SHAPES.len()];
+        let n = random.between(1, if k.is_multiple_of(20) { 400 } else { 12 });
+        let fixes = trail(shape, n as usize, &mut random);
+        let bytes = buffer(&fixes);
+        let name = format!("seed {}: {shape:?}, {n} fixes", settings.seed);
+        for _ in 0..10 {
+            let moment = Moment::good(&fixes, &mut random);
+            let answer = place(&bytes, moment, &name);
+            is_rounded(&answer, &format!("{name}, {moment:?}"));
+        }
+    }
+}
+
+#[test]
+fn every_fix_of_the_longest_trails_is_at_its_own_place() {
+    let mut random = Random::new(Settings::get().seed);
+    for shape in SHAPES {
+        let fixes = trail(shape, MOST_FIXES, &mut random);
+        let bytes = buffer(&fixes);
+        // every one would be slow, and these reach all parts of the record
+        for fix in fixes.iter().step_by(13).chain(fixes.last()) {
+            let moment = Moment {
+                second: fix.t,
+                thousandths: 0,
+            };
+            let answer = place(&bytes, moment, "the longest");
+            let whole = (answer.whole_x, answer.whole_y);
+            assert_eq!(whole, (fix.x.into(), fix.y.into()), "{shape:?}, {fix:?}");
+        }
+    }
+}
+
+/// Every half second of a short leg, where each place between two whole ones is a half somewhere.
+#[test]
+fn halves_go_upward() {
+    for d in 1..=12 {
+        for x in -12..=12 {
+            let fixes = [(7, 0, 1), (7 + d, x, 1 - x)].map(Fix::from);
+            let bytes = buffer(&fixes);
+            for half in 0..=2 * d {
+                let moment = Moment {
+                    second: 7 + half / 2,
+                    thousandths: 500 * (half % 2) as u16,
+                };
+                let answer = place(&bytes, moment, "a short leg");
+                is_rounded(&answer, &format!("{d} seconds to {x}, {moment:?}"));
+            }
+        }
+    }
+}
+
+#[test]
+fn each_refusal_is_given_in_order() {
+    let mut tally = Tally::default();
+    let faults: [&[u8]; 4] = [&[], &[12], &[11], &[12, 11]];
+    refused_in_order(&faults, &mut tally, |record, &moment: &Moment, name| {
+        let answer = place(record, moment, name);
+        let refusal = answer.refusal;
+        if refusal != 0 {
+            let nothing = Place {
+                refusal,
+                ..Place::default()
+            };
+            assert_eq!(answer, nothing, "{name}, {moment:?}");
+        }
+        refusal
+    });
+    tally.expect("place", &[1, 2, 3, 4, 5, 6, 7, 8, 9, 11, 12]);
+}

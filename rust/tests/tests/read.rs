@@ -1,0 +1,86 @@
+//! The reader: every fix in order, and then that none is left, each time; all fixes at once; and of a refused record
+//! nothing but the refusal.
+#![forbid(unsafe_code)]
+
+use trails_tests::cases::{Case, Cases, Random, Settings, Tally};
+use trails_tests::columns::Columns;
+use trails_tests::expected;
+use trails_tests::interface::{read, read_all};
+use trails_tests::plain;
+
+const RECORDS_OWN: [usize; 9] = [1, 2, 3, 4, 5, 6, 7, 8, 9];
+
+/// Holds a refusal to what is known of the case.
+fn is_known(refusal: u32, case: &Case) {
+    if let Some(known) = case.known {
+        assert_eq!(refusal, known.into(), "{}", case.name);
+    }
+}
+
+/// How many fixes the record has, and of one that is refused some.
+fn fixes(case: &Case) -> usize {
+    plain::read(&case.bytes).map_or(12, |trail| trail.fixes.len())
+}
+
+/// Positions at and after the end, near and as far as a position goes; the end itself twice.
+fn beyond(end: usize) -> Vec<usize> {
+    let bits = (16..usize::BITS).map(|bit| 1 << bit);
+    let near = [end, end, end + 1, end + 2, end + 4_096];
+    let far = [65_535, usize::MAX - 1, usize::MAX, usize::MAX / 8];
+    near.into_iter().chain(far).chain(bits).collect()
+}
+
+#[test]
+fn each_position_yields_what_the_plain_version_does() {
+    let mut tally = Tally::default();
+    for case in Cases::all(Settings::get()) {
+        let end = fixes(&case);
+        for position in (0..end).chain(beyond(end)) {
+            let step = read(&case.bytes, position);
+            let want = expected::read(&case.bytes, position);
+            assert_eq!(step, want, "{}, position {position}", case.name);
+            is_known(step.refusal, &case);
+        }
+        tally.count(read(&case.bytes, 0).refusal);
+    }
+    tally.expect("read", &RECORDS_OWN);
+}
+
+/// Lengths of the three columns: all the same, at and about the number of fixes, and each another.
+fn lengths(count: usize) -> Vec<[usize; 3]> {
+    let same = [0, 1, count - 1, count, count + 1, count + 70];
+    let others = [
+        [0, count, count + 1],
+        [count, count + 1, 0],
+        [count + 1, 0, count],
+        [count - 1, 0, 1],
+        [count + 3, count - 1, count],
+    ];
+    same.map(|length| [length; 3])
+        .into_iter()
+        .chain(others)
+        .collect()
+}
+
+#[test]
+fn columns_of_any_length_get_as_many_fixes_as_they_hold() {
+    let settings = Settings::get();
+    let mut random = Random::new(settings.seed);
+    let mut tally = Tally::default();
+    for case in Cases::all(settings) {
+        for some in lengths(fixes(&case)) {
+            let before = Columns::any(some, &mut random);
+            let (mut columns, mut want) = (before.clone(), before.clone());
+            let answer = read_all(&case.bytes, &mut columns);
+            let name = format!("{}, columns of {some:?}", case.name);
+            assert_eq!(answer, expected::read_all(&case.bytes, &mut want), "{name}");
+            assert!(columns == want, "{name}: other columns");
+            is_known(answer.refusal, &case);
+            if answer.refusal != 0 {
+                assert!(columns == before, "{name}: a refusal fills columns");
+            }
+            tally.count(answer.refusal);
+        }
+    }
+    tally.expect("read into columns", &RECORDS_OWN);
+}

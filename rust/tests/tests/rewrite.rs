@@ -1,0 +1,91 @@
+//! The program that reads a record's fixes and writes them anew, by the writer over a lent list of fixes, which the
+//! interface for other languages can't have.
+#![forbid(unsafe_code)]
+
+use trails_tests::cases::{Cases, Draft, Random, Settings};
+use trails_tests::plain::{read, record_length, rewritten, LONGEST, MOST_FIXES, NEVER};
+use trails_tests::programs::{printed, proved};
+use trails_tests::shapes::{trail, SHAPES};
+
+fn rewrites(input: &[u8], piece: usize, what: &str) {
+    let printed = printed(&proved("rewrite"), input, piece);
+    let want = rewritten(input);
+    assert!(printed == want, "{what}, in pieces of {piece}: {printed:?}");
+}
+
+/// Marked never and with tolerances, alone and with bytes after the record.
+#[test]
+fn records_of_all_sizes_are_written_anew() {
+    let mut random = Random::new(Settings::get().seed);
+    for n in [1, 2, 300, MOST_FIXES] {
+        for shape in SHAPES {
+            for (mark, after) in [(NEVER, 0), (NEVER, 90), (0, 1), (25, 0), (32_000, 17)] {
+                let tail = random.bytes(after);
+                let draft = Draft::new(trail(shape, n, &mut random), mark, tail);
+                let what = format!("{shape:?}, {n} fixes, mark {mark}, {after} bytes more");
+                rewrites(&draft.bytes(), LONGEST, &what);
+            }
+        }
+    }
+}
+
+/// What comes out is the record that went in, but for its mark and what stood after it.
+#[test]
+fn a_record_marked_never_comes_out_as_it_went_in() {
+    let mut random = Random::new(Settings::get().seed);
+    for n in [1, 2, 300, MOST_FIXES] {
+        let mut draft = Draft::accepted(&mut random, n);
+        draft.head.mark = NEVER;
+        let bytes = draft.bytes();
+        let printed = printed(&proved("rewrite"), &bytes, 999);
+        assert!(printed == bytes[..record_length(n)], "{n} fixes");
+    }
+}
+
+/// By hand: document 01's 18 bytes, marked 12 and with a byte more.
+#[test]
+fn the_papers_record_is_written_anew() {
+    let bytes = [
+        0x12, 0, 0, 0, 1, 0, 12, 0, 1, 0, 0xE8, 3, 0, 0, 0xFF, 0xFF, 2, 0, 7,
+    ];
+    let printed = printed(&proved("rewrite"), &bytes, 1);
+    let want = [
+        0x12, 0, 0, 0, 1, 0, 0xFF, 0xFF, 1, 0, 0xE8, 3, 0, 0, 0xFF, 0xFF, 2, 0,
+    ];
+    assert_eq!(printed, want);
+}
+
+#[test]
+fn no_more_than_the_longest_record_is_read() {
+    let mut random = Random::new(Settings::get().seed);
+    let mut draft = Draft::accepted(&mut random, MOST_FIXES);
+    draft.tail = random.bytes(100_000);
+    for piece in [4_096, LONGEST - 1, 1 << 20] {
+        rewrites(&draft.bytes(), piece, "the longest and more");
+    }
+    draft.lent = Some(LONGEST - 1);
+    rewrites(&draft.bytes(), 4_096, "the longest less a byte");
+}
+
+#[test]
+fn refused_records_give_their_number() {
+    let settings = Settings {
+        cases: 100,
+        ..Settings::get()
+    };
+    let refused = |number: u8, bytes: &[u8]| read(bytes).err() == Some(number);
+    let cases = Cases::all(settings);
+    for number in 1..=9 {
+        // a program's start is slow beside a call, so only some of each are run
+        let some = cases.iter().filter(|case| refused(number, &case.bytes));
+        let some: Vec<_> = some.take(5).collect();
+        assert!(!some.is_empty(), "none is refused for {number}");
+        for case in some {
+            assert_eq!(
+                rewritten(&case.bytes),
+                format!("refused {number}\n").as_bytes()
+            );
+            rewrites(&case.bytes, 7, &case.name);
+        }
+    }
+}

@@ -1,0 +1,149 @@
+//! A folder for one test, and runs of the command in it.
+
+use std::fs;
+use std::io::Write;
+use std::path::{Path, PathBuf};
+use std::process::{Command, Output, Stdio};
+use std::sync::atomic::{AtomicUsize, Ordering};
+
+use trails_tests::plain::{self, Fix, NEVER};
+
+pub const PROGRAM: &str = env!("CARGO_BIN_EXE_trail");
+
+static FOLDERS: AtomicUsize = AtomicUsize::new(0);
+
+/// How a run ended and what it printed.
+#[derive(Debug)]
+pub struct Ran {
+    pub status: Option<i32>,
+    pub out: Vec<u8>,
+    pub err: String,
+}
+
+impl From<Output> for Ran {
+    fn from(output: Output) -> Ran {
+        let err = String::from_utf8(output.stderr).expect("messages are text");
+        assert!(!err.contains("panicked"), "{err}");
+        Ran {
+            status: output.status.code(),
+            out: output.stdout,
+            err,
+        }
+    }
+}
+
+impl Ran {
+    pub fn text(&self) -> &str {
+        std::str::from_utf8(&self.out).expect("answers are text")
+    }
+
+    /// Done, with this answer and no message.
+    pub fn says(&self, text: &str) {
+        let what = (self.status, self.text(), self.err.as_str());
+        assert_eq!(what, (Some(0), text, ""));
+    }
+
+    /// Ended with this status and one line of message, and answered nothing.
+    pub fn fails(&self, status: i32, message: &str) {
+        assert_eq!(
+            (self.status, self.err.as_str()),
+            (Some(status), format!("{message}\n").as_str())
+        );
+        assert_eq!(self.text(), "");
+    }
+}
+
+pub struct Folder(PathBuf);
+
+impl Drop for Folder {
+    fn drop(&mut self) {
+        // what stays of a failed test hurts nobody
+        let _ = fs::remove_dir_all(&self.0);
+    }
+}
+
+impl Folder {
+    pub fn new() -> Folder {
+        let number = FOLDERS.fetch_add(1, Ordering::Relaxed);
+        let name = format!("trail-test-{}-{number}", std::process::id());
+        let path = std::env::temp_dir().join(name);
+        fs::create_dir(&path).expect("a new folder");
+        Folder(path)
+    }
+
+    pub fn path(&self) -> &Path {
+        &self.0
+    }
+
+    pub fn put(&self, name: &str, bytes: impl AsRef<[u8]>) {
+        fs::write(self.0.join(name), bytes).expect("a file can be put there");
+    }
+
+    pub fn get(&self, name: &str) -> Vec<u8> {
+        fs::read(self.0.join(name)).unwrap_or_else(|error| panic!("{name}: {error}"))
+    }
+
+    /// The names of all files, in order.
+    pub fn names(&self) -> Vec<String> {
+        let all = fs::read_dir(&self.0).expect("the folder can be read");
+        let name = |entry: std::io::Result<fs::DirEntry>| entry.expect("an entry").file_name();
+        let mut names: Vec<String> = all
+            .map(|entry| name(entry).into_string().expect("a name in UTF-8"))
+            .collect();
+        names.sort();
+        names
+    }
+
+    pub fn run(&self, words: &[&str]) -> Ran {
+        self.run_with(words, b"")
+    }
+
+    pub fn run_with(&self, words: &[&str], input: &[u8]) -> Ran {
+        let mut command = Command::new(PROGRAM);
+        command.args(words);
+        self.finish(&mut command, input)
+    }
+
+    /// Runs the command by a line of shell, in which `"$@"` is the command with its words.
+    pub fn run_in_shell(&self, line: &str, words: &[&str]) -> Ran {
+        let mut shell = Command::new("sh");
+        shell.args(["-c", line, "sh", PROGRAM]).args(words);
+        self.finish(&mut shell, b"")
+    }
+
+    fn finish(&self, command: &mut Command, input: &[u8]) -> Ran {
+        let mut child = command
+            .current_dir(&self.0)
+            .stdin(Stdio::piped())
+            .stdout(Stdio::piped())
+            .stderr(Stdio::piped())
+            .spawn()
+            .expect("it starts");
+        let mut to = child.stdin.take().expect("its input is a pipe");
+        std::thread::scope(|scope| {
+            // a run that doesn't read its input may hang up
+            scope.spawn(move || to.write_all(input));
+            Ran::from(child.wait_with_output().expect("it ends"))
+        })
+    }
+}
+
+/// The record of some fixes, marked never thinned.
+pub fn record(fixes: &[(u32, i16, i16)]) -> Vec<u8> {
+    let fixes: Vec<Fix> = fixes.iter().copied().map(Fix::from).collect();
+    plain::record(NEVER, &fixes)
+}
+
+/// Document 01's trail h.
+pub fn trail_h() -> Vec<u8> {
+    record(&[(0, 0, 0), (10, 20, 0), (20, 20, 0), (30, 0, 0)])
+}
+
+/// Trail h aged at 12, with the last of the old record's bytes after it, by hand.
+pub fn trail_h_at_12() -> Vec<u8> {
+    let mut aged = record(&[(0, 0, 0), (10, 20, 0), (30, 0, 0), (30, 0, 0)]);
+    aged[0] = 34;
+    aged[6..8].copy_from_slice(&12u16.to_le_bytes());
+    aged[8] = 3;
+    aged
+}

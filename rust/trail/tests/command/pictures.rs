@@ -1,0 +1,140 @@
+//! `plot`: what a picture has, and what is refused.
+
+use trails_tests::plain::{self, NEVER};
+use trails_tests::shapes::curve;
+
+use crate::folder::{record, trail_h, trail_h_at_12, Folder};
+
+fn with_h() -> Folder {
+    let folder = Folder::new();
+    folder.put("h", trail_h());
+    folder.put("aged", trail_h_at_12());
+    folder
+}
+
+fn draw(folder: &Folder, words: &str) -> String {
+    let words: Vec<&str> = words.split(' ').collect();
+    let ran = folder.run(&[&["plot", "-o", "-"], words.as_slice()].concat());
+    assert_eq!((ran.status, ran.err.as_str()), (Some(0), ""), "{words:?}");
+    let picture = ran.text().to_string();
+    well_formed(&picture);
+    picture
+}
+
+/// Every element is closed, in the order of opening, and no number is missing.
+fn well_formed(picture: &str) {
+    assert!(picture.starts_with("<svg ") && picture.ends_with("</svg>\n"));
+    assert!(!picture.contains("NaN") && !picture.contains("inf"));
+    let mut open = Vec::new();
+    for tag in picture.split('<').skip(1) {
+        let (tag, _) = tag.split_once('>').expect("a tag ends");
+        let name = tag.split(' ').next().expect("a tag has a name");
+        match name.strip_prefix('/') {
+            Some(name) => assert_eq!(open.pop(), Some(name)),
+            None if tag.ends_with('/') => {}
+            None => open.push(name),
+        }
+    }
+    assert!(open.is_empty(), "{open:?}");
+}
+
+fn count(picture: &str, class: &str) -> usize {
+    picture.matches(&format!("class=\"{class}\"")).count()
+}
+
+#[test]
+fn a_trail_alone_has_its_fixes_in_three_panels() {
+    let folder = with_h();
+    let picture = draw(&folder, "h");
+    // once in the legend too
+    assert_eq!(count(&picture, "trail"), 3 + 1);
+    assert_eq!(count(&picture, "fix"), 3 * 4 + 1);
+    for class in ["original", "band", "within", "box", "window", "first"] {
+        assert_eq!(count(&picture, class), 0, "{class}");
+    }
+    assert!(picture.contains("prefers-color-scheme:dark"));
+    for words in ["x, cm", "y, cm", "seconds after second 0"] {
+        assert!(picture.contains(&format!(">{words}</text>")), "{words}");
+    }
+}
+
+#[test]
+fn all_that_is_asked_is_drawn_and_named() {
+    let folder = with_h();
+    let words = "aged --original h --box 10 30 -5 5 --window 2 28";
+    let picture = draw(&folder, words);
+    let counts = [
+        "original", "trail", "fix", "band", "within", "box", "window", "first",
+    ]
+    .map(|class| count(&picture, class));
+    assert_eq!(counts, [4, 4, 3 * 3 + 1, 1, 3, 4, 3, 4]);
+    for words in [
+        "fixes: 3 of the original's 4; seconds 0 to 30; places in centimetres",
+        "within 12 cm of the trail",
+        "first in the box, 5.000 s",
+    ] {
+        assert!(picture.contains(&format!(">{words}</text>")), "{words}");
+    }
+    // the original is drawn first, so that it is under the trail
+    let last = |class: &str| picture.rfind(&format!("class=\"{class}\""));
+    assert!(last("original") < last("trail"));
+    let wider = draw(&folder, "aged --tolerance 40");
+    assert!(wider.contains(">within 40 cm of the trail</text>"));
+}
+
+#[test]
+fn small_and_great_trails_are_drawn() {
+    let folder = Folder::new();
+    folder.put("one", record(&[(u32::MAX, 16_000, -16_000)]));
+    let picture = draw(
+        &folder,
+        "one --tolerance 32000 --box -16000 16000 -16000 16000",
+    );
+    assert_eq!(count(&picture, "fix"), 3 + 1);
+    assert_eq!(count(&picture, "first"), 3 + 1);
+    let fixes = curve(4_096);
+    folder.put("long", plain::record(NEVER, &fixes));
+    assert_eq!(count(&draw(&folder, "long"), "fix"), 3 * 4_096 + 1);
+    let picture = draw(&folder, "one --original long");
+    assert_eq!(count(&picture, "original"), 3 + 1);
+}
+
+#[test]
+fn names_stand_harmlessly_in_pictures() {
+    let folder = Folder::new();
+    folder.put("a<b>&\"\u{1b}\u{ffff}", trail_h());
+    let picture = draw(&folder, "a<b>&\"\u{1b}\u{ffff}");
+    let name = "a&lt;b&gt;&amp;&quot;\\u{1b}\u{fffd}";
+    assert!(picture.contains(&format!(">{name}</text>")));
+}
+
+#[test]
+fn the_standard_input_is_drawn_into_a_file() {
+    let folder = Folder::new();
+    folder
+        .run_with(&["plot", "-", "-o", "h.svg"], &trail_h())
+        .says("");
+    let picture = String::from_utf8(folder.get("h.svg")).expect("a text");
+    well_formed(&picture);
+    assert!(picture.contains("<title>standard input</title>"));
+}
+
+#[test]
+fn refused_pictures_are_not_stored() {
+    let folder = with_h();
+    folder.put("text", "no trail");
+    for (words, number, file) in [
+        ("text", 1, "text"),
+        ("h --original text", 1, "text"),
+        ("h --tolerance 32001", 10, "h"),
+        ("h --window 0 31", 13, "h"),
+        ("h --box 0 16001 0 1", 14, "h"),
+    ] {
+        let words: Vec<&str> = words.split(' ').collect();
+        let ran = folder.run(&[&["plot", "-o", "new"], words.as_slice()].concat());
+        assert_eq!(ran.status, Some(1), "{words:?}");
+        let start = format!("{file}: refused {number}: ");
+        assert!(ran.err.starts_with(&start), "{}", ran.err);
+    }
+    assert_eq!(folder.names(), ["aged", "h", "text"]);
+}

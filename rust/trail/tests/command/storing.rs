@@ -1,0 +1,248 @@
+//! No trail is ever lost: full disks, folders and files that can't be written, interrupted runs, many files.
+
+use std::fs::{self, Permissions};
+use std::os::unix::fs::{symlink, MetadataExt, PermissionsExt};
+use std::os::unix::process::CommandExt;
+use std::process::{Command, Stdio};
+use std::time::Duration;
+
+use trails_tests::plain::{self, NEVER};
+use trails_tests::shapes::dearest;
+
+use crate::folder::{trail_h, trail_h_at_12, Folder, Ran, PROGRAM};
+
+const AGE: [&str; 4] = ["age", "--tolerance", "12", "h"];
+
+fn with_h() -> Folder {
+    let folder = Folder::new();
+    folder.put("h", trail_h());
+    folder
+}
+
+fn set_mode(folder: &Folder, name: &str, mode: u32) {
+    let path = folder.path().join(name);
+    fs::set_permissions(path, Permissions::from_mode(mode)).expect("it is ours");
+}
+
+#[test]
+fn a_full_disk_is_told() {
+    let folder = with_h();
+    let told = |ran: Ran, file: &str| {
+        ran.fails(3, &format!("{file}: No space left on device (os error 28)"));
+        assert_eq!(folder.names(), ["h"]);
+        assert_eq!(folder.get("h"), trail_h());
+    };
+    let words = [&AGE[..], &["-o", "/dev/full"]].concat();
+    told(folder.run(&words), "/dev/full");
+    let words = ["write", "-", "-o", "/dev/full"];
+    told(folder.run_with(&words, b"1 2 3"), "/dev/full");
+    for words in [&["list", "h"][..], &["check", "h"], &["--help"]] {
+        let ran = folder.run_in_shell("\"$@\" > /dev/full", words);
+        told(ran, "standard output");
+    }
+    // and where not even a message can be written
+    let ran = folder.run_in_shell("\"$@\" 2> /dev/full", &["list", "missing"]);
+    assert_eq!(ran.status, Some(3));
+}
+
+/// On a disk of 32 KiB, which a user may have in a namespace of their own where the system lets them.
+#[test]
+fn aging_in_place_on_a_full_disk_leaves_the_trail() {
+    let folder = with_h();
+    let line = "mkdir disk && mount -t tmpfs -o size=32k none disk || exit 99
+        cp h disk/h && head -c 32768 /dev/zero > disk/rest 2> rest.log
+        cd disk && \"$@\" > answer; echo $? > ../status; cmp h ../h && ls > ../names";
+    let mut namespace = Command::new("unshare");
+    namespace.args(["--user", "--map-root-user", "--mount", "sh", "-c", line]);
+    namespace.args(["sh", PROGRAM]).args(AGE);
+    let ran = namespace.current_dir(folder.path()).output();
+    let Some(ran) = ran.ok().filter(|ran| ran.status.success()) else {
+        eprintln!("skipped: no disk can be had here");
+        return;
+    };
+    let message = String::from_utf8_lossy(&ran.stderr);
+    assert_eq!(message, "h: No space left on device (os error 28)\n");
+    assert_eq!(folder.get("status"), b"3\n");
+    assert_eq!(folder.get("names"), b"answer\nh\nrest\n");
+}
+
+#[test]
+fn a_write_that_fails_leaves_the_trail_and_nothing_beside_it() {
+    let folder = with_h();
+    let limited = "trap '' XFSZ; ulimit -f 0; exec \"$@\"";
+    let ran = folder.run_in_shell(limited, &AGE);
+    ran.fails(3, "h: File too large (os error 27)");
+    assert_eq!(folder.get("h"), trail_h());
+    assert_eq!(folder.names(), ["h"]);
+}
+
+#[test]
+fn a_run_that_dies_while_it_writes_leaves_the_trail() {
+    let folder = with_h();
+    // the first byte that is written kills it
+    let ran = folder.run_in_shell("ulimit -c 0; ulimit -f 0; exec \"$@\"", &AGE);
+    assert_eq!(ran.status, None);
+    assert_eq!(folder.get("h"), trail_h());
+    assert_eq!(folder.names().len(), 2);
+    assert!(folder.names()[1].starts_with("h.tmp-"));
+    // and the next run isn't disturbed by what that one left
+    folder
+        .run(&AGE)
+        .says("h: kept 3 of 4 fixes, measured 3, mark 12\n");
+    assert_eq!(folder.get("h"), trail_h_at_12());
+}
+
+/// Each round kills the run a little after it has aged another file than the round before.
+#[test]
+fn runs_killed_at_any_moment_leave_whole_trails() {
+    let folder = Folder::new();
+    let names: Vec<String> = (0..16).map(|k| format!("t{k}")).collect();
+    for (round, reached) in (0..).zip(&names) {
+        names.iter().for_each(|name| folder.put(name, trail_h()));
+        let mut run = Command::new(PROGRAM)
+            .args(["age", "--tolerance", "12"])
+            .args(&names)
+            .current_dir(folder.path())
+            .stdout(Stdio::null())
+            .stderr(Stdio::null())
+            .spawn()
+            .expect("it starts");
+        while folder.get(reached) == trail_h() {
+            std::thread::sleep(Duration::from_micros(20));
+        }
+        std::thread::sleep(Duration::from_micros(7 * round));
+        run.kill().expect("it is ours");
+        run.wait().expect("it ends");
+        for name in &names {
+            let bytes = folder.get(name);
+            assert!(bytes == trail_h() || bytes == trail_h_at_12(), "{name}");
+        }
+    }
+}
+
+/// Runs the command as somebody whom permissions bind, which they don't the superuser.
+fn run_bound(folder: &Folder, words: &[&str]) -> Ran {
+    let program = folder.path().join("program");
+    // copied by another process: a file that this one writes may still be open in what other tests have just started,
+    // and can't be run then
+    let copied = Command::new("cp").arg(PROGRAM).arg(&program).status();
+    assert!(copied.is_ok_and(|status| status.success()));
+    let mut command = Command::new(&program);
+    command.args(words).current_dir(folder.path());
+    if fs::metadata("/proc/self").is_ok_and(|me| me.uid() == 0) {
+        command.uid(65_534).gid(65_534);
+    }
+    let ran = command.output().expect("it runs");
+    fs::remove_file(program).expect("it is ours");
+    Ran::from(ran)
+}
+
+#[test]
+fn in_a_folder_that_cannot_be_written_the_trail_stays() {
+    let folder = Folder::new();
+    fs::create_dir(folder.path().join("shut")).expect("a folder");
+    folder.put("shut/h", trail_h());
+    set_mode(&folder, "shut/h", 0o666);
+    set_mode(&folder, "shut", 0o555);
+    for words in [
+        &["age", "--tolerance", "12", "shut/h"][..],
+        &["age", "--tolerance", "12", "shut/h", "-o", "shut/h"],
+    ] {
+        let ran = run_bound(&folder, words);
+        ran.fails(3, "shut/h: Permission denied (os error 13)");
+        assert_eq!(folder.get("shut/h"), trail_h());
+    }
+    let ran = run_bound(&folder, &["age", "--days", "7", "shut/h", "-o", "shut/t"]);
+    ran.fails(3, "shut/t: Permission denied (os error 13)");
+    set_mode(&folder, "shut", 0o755);
+    assert_eq!(
+        fs::read_dir(folder.path().join("shut"))
+            .expect("it is there")
+            .count(),
+        1
+    );
+}
+
+#[test]
+fn a_trail_that_is_protected_from_writing_isnt_aged() {
+    let folder = with_h();
+    set_mode(&folder, "h", 0o444);
+    set_mode(&folder, ".", 0o777);
+    let ran = run_bound(&folder, &AGE);
+    ran.fails(3, "h: Permission denied (os error 13)");
+    let ran = run_bound(&folder, &["list", "h"]);
+    assert_eq!(ran.status, Some(0));
+    assert_eq!(folder.get("h"), trail_h());
+    assert_eq!(folder.names(), ["h"]);
+}
+
+#[test]
+fn permissions_and_links_stay() {
+    let folder = with_h();
+    set_mode(&folder, "h", 0o640);
+    symlink("h", folder.path().join("link")).expect("a link");
+    let ran = folder.run(&["age", "--tolerance", "12", "link"]);
+    ran.says("link: kept 3 of 4 fixes, measured 3, mark 12\n");
+    let link = fs::symlink_metadata(folder.path().join("link")).expect("it is there");
+    assert!(link.is_symlink());
+    assert_eq!(folder.get("h"), trail_h_at_12());
+    let file = fs::metadata(folder.path().join("h")).expect("it is there");
+    assert_eq!(file.mode() & 0o777, 0o640);
+    assert_eq!(folder.names(), ["h", "link"]);
+}
+
+#[test]
+fn work_goes_on_past_a_refused_file_and_is_summed_up() {
+    let folder = Folder::new();
+    folder.put("a", trail_h());
+    folder.put("b", "no trail");
+    folder.put("c", trail_h());
+    let ran = folder.run(&["age", "--tolerance", "12", "a", "b", "c"]);
+    assert_eq!(ran.status, Some(1));
+    assert_eq!(
+        ran.text(),
+        "a: kept 3 of 4 fixes, measured 3, mark 12\nc: kept 3 of 4 fixes, measured 3, mark 12\n"
+    );
+    assert_eq!(
+        ran.err,
+        "b: refused 1: The lent bytes are fewer than 10.\n3 files: 2 aged, 1 refused, 0 failed\n"
+    );
+    assert_eq!(folder.get("b"), b"no trail");
+    let ran = folder.run(&["age", "--json", "--days", "90", "a", "missing", "b"]);
+    assert_eq!(ran.status, Some(3));
+    assert_eq!(
+        ran.text(),
+        "{\"file\":\"a\",\"before\":3,\"count\":2,\"mark\":400,\"measured\":1}\n\
+         {\"file\":\"missing\",\"failed\":\"No such file or directory (os error 2)\"}\n\
+         {\"file\":\"b\",\"refused\":1,\"sentence\":\"The lent bytes are fewer than 10.\"}\n"
+    );
+    assert!(ran
+        .err
+        .ends_with("\n3 files: 1 aged, 1 refused, 1 failed\n"));
+}
+
+/// `script` runs a command at a terminal of its own.
+#[test]
+fn people_at_a_terminal_see_how_far_the_work_is() {
+    let folder = with_h();
+    folder.put("t", trail_h());
+    let line = "command -v script > /dev/null || exit 99
+        script -qec \"$1 age --tolerance 12 h t\" /dev/null";
+    let ran = folder.run_in_shell(line, &[]);
+    if ran.status == Some(99) {
+        eprintln!("skipped: no terminal can be had here");
+        return;
+    }
+    assert!(ran.text().contains("1 of 2 files"), "{}", ran.text());
+    assert!(ran.text().contains("2 files: 2 aged, 0 refused, 0 failed"));
+}
+
+#[test]
+fn the_deepest_trail_is_aged_under_a_small_stack_limit() {
+    let folder = Folder::new();
+    let fixes = dearest(4_096);
+    folder.put("t", plain::record(NEVER, &fixes));
+    let words = ["age", "--tolerance", "1", "t"];
+    let ran = folder.run_in_shell("ulimit -s 256; exec \"$@\"", &words);
+    ran.says("t: kept 4096 of 4096 fixes, measured 8382465, mark 1\n");
+}

@@ -1,0 +1,74 @@
+//! Aging: thinning again what was thinned.
+
+use crate::interface;
+use crate::refusal::{value, Refusal};
+
+/// An aging that can be asked.
+#[derive(Clone, Copy, Debug, PartialEq, Eq, Hash)]
+pub enum Aging {
+    /// At this tolerance, in centimetres.
+    Tolerance(u16),
+    /// At the tolerance that so many days give.
+    Days(u16),
+}
+
+impl Aging {
+    /// The tolerance that this aging applies to an accepted record: none if it is above 32,000, which is refused, or
+    /// if the days are 0 or 1.
+    pub fn applies(self) -> Option<u16> {
+        match self {
+            Aging::Tolerance(e) => Some(e).filter(|e| *e <= 32_000),
+            Aging::Days(0..=1) => None,
+            Aging::Days(2..=6) => Some(10),
+            Aging::Days(7..=29) => Some(25),
+            Aging::Days(30..=89) => Some(100),
+            Aging::Days(90..) => Some(400),
+        }
+    }
+
+    /// Ages the record that the bytes begin with. See `age` and `age_by_days`.
+    pub fn apply(self, record: &mut [u8]) -> Result<u32, Refusal> {
+        match self {
+            Aging::Tolerance(tolerance) => age(record, tolerance),
+            Aging::Days(days) => age_by_days(record, days),
+        }
+    }
+
+    /// Its number in a list that is lent to the interface.
+    fn number(self) -> u32 {
+        match self {
+            Aging::Tolerance(tolerance) => tolerance.into(),
+            Aging::Days(days) => 0x1_0000 | u32::from(days),
+        }
+    }
+}
+
+/// Ages the record by tolerance, in centimetres: its fixes are thinned, the kept ones close up at its start, length
+/// and count follow, and the mark becomes the greatest tolerance applied. All bytes from the new length on stay.
+/// Answers how many fixes were measured. Makes checks 1 to 10.
+///
+/// STACK. An aging takes up to 600,000 bytes of stack, for a record of 4,096 fixes. Rust's threads have more unless they
+/// are asked to have less; one with less must not age long trails.
+pub fn age(record: &mut [u8], tolerance: u16) -> Result<u32, Refusal> {
+    value(interface::age(record, tolerance))
+}
+
+/// Ages the record by days: from day 2 at tolerance 10, from day 7 at 25, from day 30 at 100, from day 90 at 400.
+/// Days 0 and 1 change nothing. Makes checks 1 to 9. STACK: as `age`.
+pub fn age_by_days(record: &mut [u8], days: u16) -> Result<u32, Refusal> {
+    value(interface::age_by_days(record, days))
+}
+
+/// Makes all agings of a list, one after the other, each on the record as the one before left it. Those that are turned
+/// away, by a tolerance above 32,000, change nothing, and those after them are made. Answers how many they were. Makes
+/// checks 1 to 9, and where one fails makes no aging. STACK: as `age`.
+pub fn run(record: &mut [u8], list: &[Aging]) -> Result<usize, Refusal> {
+    let run = interface::run(record, &numbers(list));
+    Refusal::none_in(run.refusal)?;
+    Ok(run.turned_away)
+}
+
+/// A list as it is lent to the interface.
+pub(crate) fn numbers(list: &[Aging]) -> Vec<u32> {
+    list.iter().map(|aging| aging.number()).collect()
+}

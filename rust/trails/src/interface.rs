@@ -1,0 +1,278 @@
+//! The functions of `include/trails.h`, one for one: slices in place of pointers, and answers in numbers as the header has
+//! them. The rest of this package puts types in their place, so a program wants these only to see the numbers themselves.
+//!
+//! This is the only file with `unsafe`.
+#![allow(unsafe_code)]
+
+/// What a record's head says.
+#[repr(C)]
+#[derive(Clone, Copy, Debug, PartialEq, Eq)]
+pub struct Head {
+    /// 0 for none; else all that follows is 0.
+    pub refusal: u32,
+    /// How many fixes the record has.
+    pub count: u32,
+    /// The greatest tolerance applied so far, or 65,535 for a trail that was never thinned.
+    pub mark: u32,
+}
+
+/// What a reader says at a position.
+#[repr(C)]
+#[derive(Clone, Copy, Debug, Default, PartialEq, Eq)]
+pub struct Step {
+    /// 0 for none; else all that follows is 0.
+    pub refusal: u32,
+    /// 1 and the fix follows; or 0, and everything is: none is left.
+    pub found: u32,
+    /// Seconds.
+    pub t: u32,
+    /// Centimetres.
+    pub x: i32,
+    /// Centimetres.
+    pub y: i32,
+}
+
+/// A refusal, or a value.
+#[repr(C)]
+#[derive(Clone, Copy, Debug, PartialEq, Eq)]
+pub struct Answer {
+    /// 0 for none; else the value is 0.
+    pub refusal: u32,
+    /// What it is stands with each function.
+    pub value: u32,
+}
+
+/// What became of a list of agings.
+#[repr(C)]
+#[derive(Clone, Copy, Debug, PartialEq, Eq)]
+pub struct Run {
+    /// 0 for none; else nothing was done, and what follows is 0.
+    pub refusal: u32,
+    /// How many of the list's calls were refused.
+    pub turned_away: usize,
+}
+
+/// Where a cart was: (x / denominator, y / denominator), in centimetres.
+#[repr(C)]
+#[derive(Clone, Copy, Debug, Default, PartialEq, Eq)]
+pub struct Place {
+    /// 0 for none; else all that follows is 0.
+    pub refusal: u32,
+    /// At least 1.
+    pub denominator: u32,
+    /// Centimetres times the denominator.
+    pub x: i64,
+    /// Centimetres times the denominator.
+    pub y: i64,
+    /// x in whole centimetres, halves upward.
+    pub whole_x: i32,
+    /// y in whole centimetres, halves upward.
+    pub whole_y: i32,
+}
+
+/// Whether a cart was in a box. No `PartialEq`: the form of a crossing's fraction is free.
+#[repr(C)]
+#[derive(Clone, Copy, Debug)]
+pub struct Crossing {
+    /// 0 for none; else all that follows is 0.
+    pub refusal: u32,
+    /// 1 for yes; 0 for no, and then all that follows is 0.
+    pub crosses: u32,
+    /// Seconds after the first fix, times the denominator.
+    pub numerator: u32,
+    /// From 1 to 32,000.
+    pub denominator: u32,
+}
+
+/// A window and a box, as the functions take them.
+#[derive(Clone, Copy, Debug)]
+pub struct Question {
+    /// The window's first second.
+    pub start: u32,
+    /// Its last.
+    pub end: u32,
+    /// The least x.
+    pub left: i32,
+    /// The greatest.
+    pub right: i32,
+    /// The least y.
+    pub bottom: i32,
+    /// The greatest.
+    pub top: i32,
+}
+
+/// The most bytes that a listing has.
+pub const LONGEST_TEXT: usize = 118_805;
+
+extern "C" {
+    fn trails_check(record: *const u8, lent: usize) -> Head;
+    fn trails_read(record: *const u8, lent: usize, position: usize) -> Step;
+    fn trails_read_all(
+        record: *const u8,
+        lent: usize,
+        t: *mut u32,
+        t_count: usize,
+        x: *mut i16,
+        x_count: usize,
+        y: *mut i16,
+        y_count: usize,
+    ) -> Answer;
+    fn trails_write(
+        t: *const u32,
+        t_count: usize,
+        x: *const i16,
+        x_count: usize,
+        y: *const i16,
+        y_count: usize,
+        output: *mut u8,
+        output_bytes: usize,
+    ) -> Answer;
+    fn trails_list(record: *const u8, lent: usize, output: *mut [u8; LONGEST_TEXT]) -> usize;
+    fn trails_age(record: *mut u8, lent: usize, tolerance: u16) -> Answer;
+    fn trails_age_by_days(record: *mut u8, lent: usize, days: u16) -> Answer;
+    fn trails_place(record: *const u8, lent: usize, second: u32, thousandths: u16) -> Place;
+    fn trails_crosses(
+        record: *const u8,
+        lent: usize,
+        start: u32,
+        end: u32,
+        left: i32,
+        right: i32,
+        bottom: i32,
+        top: i32,
+    ) -> Crossing;
+    fn trails_run(record: *mut u8, lent: usize, calls: *const u32, call_count: usize) -> Run;
+    fn trails_crosses_after(
+        record: *mut u8,
+        lent: usize,
+        calls: *const u32,
+        call_count: usize,
+        start: u32,
+        end: u32,
+        left: i32,
+        right: i32,
+        bottom: i32,
+        top: i32,
+    ) -> Crossing;
+}
+
+/// Whether the bytes begin with a record: checks 1 to 9.
+pub fn check(record: &[u8]) -> Head {
+    // SAFETY: a slice's pointer isn't null, is aligned, and reaches as many elements as its length says, all of
+    // them readable; the header asks nothing else. The calls below say only what they have more than this one.
+    unsafe { trails_check(record.as_ptr(), record.len()) }
+}
+
+/// The fix at a position: checks 1 to 9.
+pub fn read(record: &[u8], position: usize) -> Step {
+    // SAFETY: as in `check`.
+    unsafe { trails_read(record.as_ptr(), record.len(), position) }
+}
+
+/// All fixes, into three columns, of which each gets as many as it holds: checks 1 to 9. The value is the record's count.
+pub fn read_all(record: &[u8], t: &mut [u32], x: &mut [i16], y: &mut [i16]) -> Answer {
+    // SAFETY: as in `check`; each column is lent alone, so that it may be written and overlaps nothing else.
+    unsafe {
+        trails_read_all(
+            record.as_ptr(),
+            record.len(),
+            t.as_mut_ptr(),
+            t.len(),
+            x.as_mut_ptr(),
+            x.len(),
+            y.as_mut_ptr(),
+            y.len(),
+        )
+    }
+}
+
+/// The record of the fixes in three columns, as long as the shortest: checks 3, 7, 8, 9 and 15. The value is its length.
+pub fn write(t: &[u32], x: &[i16], y: &[i16], output: &mut [u8]) -> Answer {
+    // SAFETY: as in `check`; the output is lent alone, so that it may be written and overlaps no column.
+    unsafe {
+        trails_write(
+            t.as_ptr(),
+            t.len(),
+            x.as_ptr(),
+            x.len(),
+            y.as_ptr(),
+            y.len(),
+            output.as_mut_ptr(),
+            output.len(),
+        )
+    }
+}
+
+/// The listing's text, at the output's start: answers its length.
+pub fn list(record: &[u8], output: &mut [u8; LONGEST_TEXT]) -> usize {
+    // SAFETY: as in `check`; the output is lent alone, so that it may be written, and has the bytes that are asked.
+    unsafe { trails_list(record.as_ptr(), record.len(), output) }
+}
+
+/// Ages by tolerance: checks 1 to 10. The value is how many fixes were measured.
+pub fn age(record: &mut [u8], tolerance: u16) -> Answer {
+    // SAFETY: as in `check`; the record is lent alone, so that it may be written.
+    unsafe { trails_age(record.as_mut_ptr(), record.len(), tolerance) }
+}
+
+/// Ages by days: checks 1 to 9. The value is how many fixes were measured.
+pub fn age_by_days(record: &mut [u8], days: u16) -> Answer {
+    // SAFETY: as in `age`.
+    unsafe { trails_age_by_days(record.as_mut_ptr(), record.len(), days) }
+}
+
+/// Where the cart was at a moment: checks 1 to 9, 11 and 12.
+pub fn place(record: &[u8], second: u32, thousandths: u16) -> Place {
+    // SAFETY: as in `check`.
+    unsafe { trails_place(record.as_ptr(), record.len(), second, thousandths) }
+}
+
+/// Whether the cart was in a box: checks 1 to 9, 13 and 14.
+pub fn crosses(record: &[u8], asked: Question) -> Crossing {
+    // SAFETY: as in `check`.
+    unsafe {
+        trails_crosses(
+            record.as_ptr(),
+            record.len(),
+            asked.start,
+            asked.end,
+            asked.left,
+            asked.right,
+            asked.bottom,
+            asked.top,
+        )
+    }
+}
+
+/// Makes all agings of a list: checks 1 to 9. A call below 65,536 is a tolerance, and one from there on is days, by its
+/// lower 16 bits.
+pub fn run(record: &mut [u8], calls: &[u32]) -> Run {
+    // SAFETY: as in `age`; the record overlaps no call.
+    unsafe {
+        trails_run(
+            record.as_mut_ptr(),
+            record.len(),
+            calls.as_ptr(),
+            calls.len(),
+        )
+    }
+}
+
+/// Makes all agings of a list, as `run` does, and then asks as `crosses` does: checks 1 to 9, 13 and 14, before any aging.
+pub fn crosses_after(record: &mut [u8], calls: &[u32], asked: Question) -> Crossing {
+    // SAFETY: as in `age`; the record overlaps no call.
+    unsafe {
+        trails_crosses_after(
+            record.as_mut_ptr(),
+            record.len(),
+            calls.as_ptr(),
+            calls.len(),
+            asked.start,
+            asked.end,
+            asked.left,
+            asked.right,
+            asked.bottom,
+            asked.top,
+        )
+    }
+}

@@ -1,0 +1,31 @@
+//! Trails of tray carts: reading, writing, aging and asking them.
+//!
+//! The work is done by the proved functions of `include/trails.h`. This package lends them slices and turns their
+//! answers into Rust's types: a refusal is an `Err` with document 01's number and sentence, and every content and
+//! every length of a slice has an answer. Nothing here panics, and only the module `interface` has `unsafe`.
+//!
+//! Times are in seconds and places in centimetres.
+//!
+//! ```
+//! use trails::{Fix, Refusal};
+//!
+//! let fix = |t, x| Fix { t, x, y: 0 };
+//! let mut record = trails::write(&[fix(0, 0), fix(10, 100), fix(20, 200)])?;
+//! assert_eq!(trails::age(&mut record, 40_000), Err(Refusal::HighTolerance));
+//! assert_eq!(trails::age(&mut record, 0), Ok(1));
+//! assert_eq!(trails::fixes(&record)?, [fix(0, 0), fix(20, 200)]);
+//! # Ok::<(), Refusal>(())
+//! ```
+#![deny(unsafe_code)]
+#![deny(missing_docs)]
+
+mod aging;
+pub mod interface;
+mod questions;
+mod record;
+mod refusal;
+
+pub use aging::{age, age_by_days, run, Aging};
+pub use questions::{crosses, crosses_after, place, Area, Crossing, Moment, Place, Window};
+pub use record::{check, fixes, list, write, write_into, Fix, Head, LONGEST};
+pub use refusal::Refusal;

@@ -1,0 +1,124 @@
+//! The two questions: where a cart was at a moment, and whether it crossed a box.
+
+use crate::aging::{numbers, Aging};
+use crate::interface;
+use crate::refusal::Refusal;
+
+/// A moment on the fixes' own clock.
+#[derive(Clone, Copy, Debug, PartialEq, Eq, Hash)]
+pub struct Moment {
+    /// The second.
+    pub second: u32,
+    /// So many thousandths after it, at most 999.
+    pub thousandths: u16,
+}
+
+/// Where a cart was: (x / denominator, y / denominator), in centimetres.
+#[derive(Clone, Copy, Debug, PartialEq, Eq, Hash)]
+pub struct Place {
+    /// At least 1. The fractions aren't reduced.
+    pub denominator: u32,
+    /// Centimetres times the denominator.
+    pub x: i64,
+    /// Centimetres times the denominator.
+    pub y: i64,
+    /// x in whole centimetres, halves upward.
+    pub whole_x: i32,
+    /// y in whole centimetres, halves upward.
+    pub whole_y: i32,
+}
+
+/// A box with its edges included, in centimetres.
+#[derive(Clone, Copy, Debug, PartialEq, Eq, Hash)]
+pub struct Area {
+    /// The least x.
+    pub left: i32,
+    /// The greatest x.
+    pub right: i32,
+    /// The least y.
+    pub bottom: i32,
+    /// The greatest y.
+    pub top: i32,
+}
+
+/// A window with both ends included, in seconds on the fixes' own clock.
+#[derive(Clone, Copy, Debug, PartialEq, Eq, Hash)]
+pub struct Window {
+    /// Its first second.
+    pub start: u32,
+    /// Its last second.
+    pub end: u32,
+}
+
+/// The earliest time at which a cart was in a box: numerator / denominator seconds after the first fix.
+///
+/// The fraction's form is free; two crossings are equal if their values are.
+#[derive(Clone, Copy, Debug)]
+pub struct Crossing {
+    /// Seconds times the denominator.
+    pub numerator: u32,
+    /// From 1 to 32,000.
+    pub denominator: u32,
+}
+
+impl PartialEq for Crossing {
+    fn eq(&self, other: &Crossing) -> bool {
+        let product = |a: u32, b: u32| u64::from(a) * u64::from(b);
+        product(self.numerator, other.denominator) == product(other.numerator, self.denominator)
+    }
+}
+
+/// Where the cart was at a moment. Makes checks 1 to 9, 11 and 12.
+pub fn place(record: &[u8], moment: Moment) -> Result<Place, Refusal> {
+    let found = interface::place(record, moment.second, moment.thousandths);
+    Refusal::none_in(found.refusal)?;
+    Ok(Place {
+        denominator: found.denominator,
+        x: found.x,
+        y: found.y,
+        whole_x: found.whole_x,
+        whole_y: found.whole_y,
+    })
+}
+
+/// A question as it is lent to the interface.
+fn asked(area: Area, window: Window) -> interface::Question {
+    interface::Question {
+        start: window.start,
+        end: window.end,
+        left: area.left,
+        right: area.right,
+        bottom: area.bottom,
+        top: area.top,
+    }
+}
+
+fn told(answer: interface::Crossing) -> Result<Option<Crossing>, Refusal> {
+    Refusal::none_in(answer.refusal)?;
+    let yes = answer.crosses != 0;
+    Ok(yes.then_some(Crossing {
+        numerator: answer.numerator,
+        denominator: answer.denominator,
+    }))
+}
+
+/// Whether the cart was in the box at some time of the window, fractions of seconds too, and when first. Makes
+/// checks 1 to 9, 13 and 14.
+pub fn crosses(record: &[u8], area: Area, window: Window) -> Result<Option<Crossing>, Refusal> {
+    told(interface::crosses(record, asked(area, window)))
+}
+
+/// Makes all agings of a list, as `run` does, and then asks `crosses` of what is left. Makes checks 1 to 9, 13 and 14
+/// first, and where one fails makes no aging. STACK: as `age`.
+pub fn crosses_after(
+    record: &mut [u8],
+    list: &[Aging],
+    area: Area,
+    window: Window,
+) -> Result<Option<Crossing>, Refusal> {
+    told(interface::crosses_after(
+        record,
+        &numbers(list),
+        asked(area, window),
+    ))
+}
