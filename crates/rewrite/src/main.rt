@@ -1,5 +1,5 @@
-// Reads a record from standard input, at most its first 32,778 bytes, and writes its fixes as a record anew, marked never; or says the number of its refusal.
-// Its fixes are taken into a list of this program's own, which is lent to the writer: it is how the writer over a lent list is run.
+// Reads a record from standard input, at most its first 32,778 bytes, and writes its fixes as a record anew, marked never; or prints the number of its refusal.
+// The fixes go by a list in this program's own memory, which it lends to the writer.
 ghost use mathlib.Core.Path.{_≡_};
 ghost use mathlib.Core.Option.{none};
 ghost use Prim.Native.Nat.{_+_, _*_, _≤_};
@@ -33,7 +33,7 @@ fn fixes_of(b: &[u8], n: usize) -> [Fix; 4096]
     list
 }
 
-// The first n fixes of a list, lent to the writer. The one function here that makes a reference to fixes, and all that it does.
+// The record of a list's first n fixes, which are lent to the writer. It does nothing else, since what makes a reference to structs takes a proof by hand.
 fn write_list(list: [Fix; 4096], n: usize, out: &mut [u8]) -> Written
     requires { ⌜ n ≤ 4096 ⌝ }
     ensures { λ r. ⌜ (wrote r ≡ write-answer trail (lent-fixes (take n list)) (now (out .entry))) × (now (out .exit) ≡ written trail (lent-fixes (take n list)) (now (out .entry))) × (write-refusal trail (lent-fixes (take n list)) (now (out .entry)) ≡ none → ReadsBack trail (lent-fixes (take n list)) (now (out .exit))) ⌝ }
@@ -42,7 +42,7 @@ fn write_list(list: [Fix; 4096], n: usize, out: &mut [u8]) -> Written
 }
 
 // The record that the bytes begin with, written anew.
-pub fn write_anew(b: &[u8], out: &mut [u8]) -> Written
+fn write_anew(b: &[u8], out: &mut [u8]) -> Written
     ensures { λ r. ⌜ (wrote r ≡ anew-answer trail (now (b .entry)) (now (out .entry))) × (now (out .exit) ≡ anew trail (now (b .entry)) (now (out .entry))) × (IsAccepted trail (now (b .entry)) → length-field (now (b .entry)) ≤ length (now (out .entry)) → ReadsBack trail (fixes trail (now (b .entry))) (now (out .exit))) ⌝ }
 {
     let v = record::check(b);
@@ -55,19 +55,16 @@ pub fn write_anew(b: &[u8], out: &mut [u8]) -> Written
     }
 }
 
-fn refused(k: u8) {
-    io::write_all(libc::STDOUT_FILENO, b"refused ");
-    io::print_decimal(libc::STDOUT_FILENO, k as u64);
-    io::write_all(libc::STDOUT_FILENO, b"\n");
-}
-
 fn main() {
     let mut bytes = [0u8; 32778];
     let lent = io::read_full(libc::STDIN_FILENO, &mut bytes);
     let mut out = [0u8; 32778];
     let w = write_anew(&bytes[..lent], &mut out);
     match w {
-        Written::Refused(k) => refused(k),
+        Written::Refused(k) => {
+            table::refused(k);
+            table::word(b"\n");
+        },
         Written::Length(n) => {
             let length = n as usize;
             io::write_all(libc::STDOUT_FILENO, &out[..length]);

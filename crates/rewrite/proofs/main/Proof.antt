@@ -32,6 +32,12 @@ enum-known-w c = search needs
 refused-requires : tie.Need-refused-requires
 refused-requires c κs = search needs
 
+slice-aggregate-word : tie.Need-slice-aggregate-word
+slice-aggregate-word c = search needs
+
+word-requires : tie.Need-word-requires
+word-requires c κs = search needs
+
 enum-known-w-2 : tie.Need-enum-known-w-2
 enum-known-w-2 c = search needs
 
@@ -69,6 +75,8 @@ main-spec =
     write-anew-requires
     enum-known-w
     refused-requires
+    slice-aggregate-word
+    word-requires
     enum-known-w-2
     cast-length
     array-share-prefix-out
