@@ -251,7 +251,7 @@ pub fn crossed(r: Crossed) {
     match r {
         Crossed::Refused(k) => refused(k),
         Crossed::Denied => word(b"no"),
-        Crossed::Told(n, d) => time(n, d as u32),
+        Crossed::Told(f) => time(f.num, f.den as u32),
     }
 }
 
