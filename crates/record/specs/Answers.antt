@@ -3,6 +3,8 @@ use mathlib.Core.Option.{Option, some, none}
 use Prim.Native.Nat.{ℕ}
 use Rattle.distance.specs.Fix.{Fix, fixOf}
 use Rattle.record.specs.declared.Checked.{Checked}
+use Rattle.record.specs.declared.AllRead.{AllRead}
+use Rattle.record.specs.declared.AllRead.the-variants as All
 use Rattle.record.specs.declared.Step.{Step}
 use Rattle.record.specs.declared.Step.the-variants.{Found, NoneLeft}
 use Rattle.record.specs.declared.Checked.the-variants.{Accepted, Refused}
@@ -30,3 +32,8 @@ refused (Refused k) = some k
 abbrev pub found : Step → Option Fix
 found (Found f) = some (fixOf f)
 found NoneLeft = none
+
+-- What the reader of all fixes answered: the record's count, or the refusal.
+abbrev pub read-count : AllRead → Answer ℕ
+read-count (All.Count n) = gives n
+read-count (All.Refused k) = turns-away k

@@ -3,5 +3,6 @@ pub mod First
 pub mod Scan
 pub mod Head
 pub mod Reading
+pub mod Columns
 pub mod Accepted
 pub mod Trail

@@ -1,7 +1,9 @@
-// The record layer: the checks that every call makes of a record, and its reader.
+// The record layer: the checks that every call makes of a record, and its readers.
+mod all;
 mod checking;
 mod reading;
 
+pub use all::read_all;
 pub use checking::check;
 pub use checking::scan_first;
 pub use checking::scan_next;
@@ -33,4 +35,10 @@ pub struct Scan {
 pub enum Step {
     Found(Fix),
     NoneLeft,
+}
+
+// What the reader of all fixes answers: how many the record has, or the number of the first check that turns it away.
+pub enum AllRead {
+    Count(u32),
+    Refused(u8),
 }

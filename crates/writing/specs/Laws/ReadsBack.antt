@@ -1,11 +1,11 @@
 -- Reading what a writer put down gives the list again.
-use mathlib.Core.Path.{_≡_, refl}
-use mathlib.Core.List.{List, [], _∷_, _++_}
+use mathlib.Core.Path.{_≡_, refl, sym, _∙_, ap}
+use mathlib.Core.List.{List, [], _∷_, _++_, map}
 use mathlib.Core.Option.{none}
-use Prim.Native.Nat.{ℕ, _+_, _*_, _<_, _≤_}
+use Prim.Native.Nat.{ℕ, zero, suc, _+_, _*_, _<_, _≤_, min}
 use native.Mathlib.Omega.{arith}
 use lib.Dec.{ltb, eqb}
-use lib.ListN.{length, drop, length-append}
+use lib.ListN.{length, getD, drop, length-append}
 use borrow.Author.Tests.{eqb-false}
 use lib.IntN.{ℤ, pos, negsuc, negℤ}
 use mir.Syntax.{w16}
@@ -14,14 +14,18 @@ use lib.Signed.{_≤ℤ_}
 use Rattle.distance.specs.Fix.{Fix, Bounded}
 use Rattle.distance.specs.Laws.All.{All, all-none, all-more}
 use Rattle.distance.specs.Integers.Differences.{diffs}
-use Rattle.format.specs.Format.{trail, never, record-bytes}
+use Rattle.format.specs.Format.{trail, never, count-field, fix-at, each, record-bytes}
 use Rattle.record.specs.Checks.{bad-count, short-output, sentence, fix-checks, refusal, writing}
 use Rattle.record.specs.Laws.First.{NoneHolds, no-check, and-not, none-holds}
 use Rattle.record.specs.Laws.Head.{positive, neither}
 use Rattle.format.specs.Laws.RoundTrip.{InRange, read-record}
-use Rattle.writing.specs.Writing.{asked-to-write, write-refusal, written, ReadsBack}
+use Rattle.writing.specs.Writing.{asked-to-write, write-refusal, written, ReadsBack, column-fix, columns}
 use Rattle.writing.specs.Laws.Writing.{writes-fit}
+use Rattle.format.specs.Laws.Each.{length-each, each-shift}
 use Rattle.format.specs.Laws.Layout.{length-record}
+use Rattle.record.specs.Answers.{gives}
+use Rattle.record.specs.Reading.{times-of, xs-of, ys-of, read-answer, times-read, xs-read, ys-read}
+use Rattle.record.specs.Laws.Columns.{reads-exactly}
 use Rattle.record.specs.Laws.Scan.{Timed}
 use Rattle.record.specs.Laws.Accepted.{GoodFixes, accept, mark-never-applied, places-good}
 
@@ -52,3 +56,49 @@ writes-back l out h n =
   where
     long : (l : List Fix) (r : List ℕ) → 10 + 8 * length l ≤ length (record-bytes trail never l ++ r)
     long l r = omega (arith, length-append (record-bytes trail never l) r, length-record never l)
+
+-- ---- THE INVERSE of the writer over columns: all fixes read at once, into columns as long as the lent ones, are the lent columns
+module _ {A : Type 0} where
+  map-each : (field : Fix → A) (f : ℕ → Fix) (k n : ℕ) → map field (each f k n) ≡ each (λ (i : ℕ). field (f i)) k n
+  unfolding each
+  map-each field f k zero = refl
+  map-each field f k (suc n) = ap (λ (l : List A). field (f k) ∷ l) (map-each field f (suc k) n)
+
+  each-of : (l : List A) (d : A) → each (λ (i : ℕ). getD l i d) 0 (length l) ≡ l
+  unfolding each
+  each-of [] d = refl
+  each-of (a ∷ l) d = ap (λ (m : List A). a ∷ m) (each-shift (λ (i : ℕ). getD (a ∷ l) i d) (λ (i : ℕ). getD l i d) 0 (length l) (λ i. refl) ∙ each-of l d)
+
+-- what a record says that reads back as three columns of one length
+module _ (ts : List ℕ) (xs ys : List ℤ) (p : length xs ≡ length ts) (q : length ys ≡ length ts) where
+  as-many : min (length ts) (min (length xs) (length ys)) ≡ length ts
+  as-many = omega arith
+
+  pub columns-times : times-of (columns ts xs ys) ≡ ts
+  columns-times = map-each (λ (f : Fix). f .t) (column-fix ts xs ys) 0 _ ∙ rw as-many (each-of ts 0)
+
+  pub columns-xs : xs-of (columns ts xs ys) ≡ xs
+  columns-xs = map-each (λ (f : Fix). f .x) (column-fix ts xs ys) 0 _ ∙ rw (as-many, ← p) (each-of xs (pos 0))
+
+  pub columns-ys : ys-of (columns ts xs ys) ≡ ys
+  columns-ys = map-each (λ (f : Fix). f .y) (column-fix ts xs ys) 0 _ ∙ rw (as-many, ← q) (each-of ys (pos 0))
+
+  module _ (us : List ℕ) (vs ws : List ℤ) (u : length us ≡ length ts) (v : length vs ≡ length ts) (w : length ws ≡ length ts) where
+    pub reads-columns-back : (b : List ℕ) → ReadsBack trail (columns ts xs ys) b
+        → (read-answer trail b ≡ gives (length ts)) × (times-read trail b us ≡ ts) × (xs-read trail b vs ≡ xs) × (ys-read trail b ws ≡ ys)
+    reads-columns-back b r =
+        let n : count-field b ≡ length ts = sym (length-each (fix-at trail b) 0 (count-field b)) ∙ ap length (r .fixes-are) ∙ length-each (column-fix ts xs ys) 0 _ ∙ as-many in
+        let e = reads-exactly b us vs ws (r .is-accepted) (u ∙ sym n) (v ∙ sym n) (w ∙ sym n) in (
+          rw (r .is-accepted .accepted, n) refl,
+          e .0 ∙ ap times-of (r .fixes-are) ∙ columns-times,
+          e .1 ∙ ap xs-of (r .fixes-are) ∙ columns-xs,
+          e .2 ∙ ap ys-of (r .fixes-are) ∙ columns-ys,
+        )
+
+    -- so whatever columns the writer accepts, reading what it wrote gives them back
+    pub written-columns-back : (out : List ℕ) → All Timed (columns ts xs ys) → write-refusal trail (columns ts xs ys) out ≡ none
+        → (read-answer trail (written trail (columns ts xs ys) out) ≡ gives (length ts))
+        × (times-read trail (written trail (columns ts xs ys) out) us ≡ ts)
+        × (xs-read trail (written trail (columns ts xs ys) out) vs ≡ xs)
+        × (ys-read trail (written trail (columns ts xs ys) out) ws ≡ ys)
+    written-columns-back out t h = reads-columns-back (written trail (columns ts xs ys) out) (writes-back (columns ts xs ys) out t h)

@@ -1,0 +1,71 @@
+use mathlib.Core.Path.{_≡_, sym, _∙_, ap}
+use mathlib.Core.Option.{none}
+use native.Mathlib.Omega.{arith}
+use denote.Ref.{now}
+use Rattle.format.specs.Format.{trail}
+use Rattle.record.specs.Checks.{read-refusal}
+use Rattle.record.specs.Answers.{refused}
+use Rattle.record.specs.Laws.Head.{accepted-head}
+use Rattle.record.specs.Laws.Columns.{fills, leaves}
+use borrow.Author.Needs.{needs}
+use Rattle.record.proofs.all.read_all.Statement.{statement}
+use Rattle.record.proofs.all.read_all.Tie as tie
+
+check-requires : tie.Need-check-requires
+check-requires c κs = search needs
+
+enum-known-v : tie.Need-enum-known-v
+enum-known-v c = search needs
+
+enum-told : tie.Need-enum-told
+enum-told c = search needs
+
+-- in the second arm the record is accepted
+accepted : (c : tie.After-enum-told) → read-refusal trail (now (c .before .before .before .before .before .args .b)) ≡ none
+accepted c = sym (c .before .before .check .ensures) ∙ ap refused (c .enum-told .given .1)
+
+count-at-requires : tie.Need-count-at-requires
+count-at-requires c κs = accepted-head (now (c .before .before .before .before .before .args .b)) (accepted c) .ten
+
+fill-requires : tie.Need-fill-requires
+fill-requires c κs =
+    let h = accepted-head (now (c .before .before .before .before .before .before .before .before .before .args .b)) (accepted (c .before .before .before .before)) in
+    let e = c .before .before .before .count-at .ensures .0 in
+    (omega (arith, h .few-fixes), omega (arith, h .whole))
+
+cast-t16 : tie.Need-cast-t16
+cast-t16 c = search needs
+
+returns : tie.Need-returns
+returns c = leaves (now (c .before .before .before .before .before .before .args .b)) _ _ _ _ (sym (c .before .before .before .check .ensures) ∙ ap refused (c .before .v .given .1))
+
+same-length : tie.Need-same-length
+same-length c = search needs
+
+same-length-2 : tie.Need-same-length-2
+same-length-2 c = search needs
+
+same-length-3 : tie.Need-same-length-3
+same-length-3 c = search needs
+
+returns-2 : tie.Need-returns-2
+returns-2 c =
+    let e = c .before .before .before .before .fill .ensures in
+    let n = c .before .before .before .before .before .before .before .before .count-at .ensures .0 in
+    fills (now (c .before .before .before .before .before .before .before .before .before .before .before .before .before .before .args .b)) _ _ _ (accepted (c .before .before .before .before .before .before .before .before .before)) n (e .0) (e .1) (e .2)
+
+pub read-all-spec : {M : Type 1} → statement M
+read-all-spec =
+    tie.close
+    (tie.spec
+    check-requires
+    enum-known-v
+    enum-told
+    count-at-requires
+    fill-requires
+    cast-t16
+    returns
+    same-length
+    same-length-2
+    same-length-3
+    returns-2)

@@ -1,0 +1,63 @@
+// The reader of all fixes at once: their times, x and y into three lent columns of numbers.
+ghost use mathlib.Core.Path.{_≡_};
+ghost use Prim.Native.Nat.{_+_, _*_, _≤_};
+ghost use lib.ListN.{length, set};
+ghost use Rattle.format.specs.Format.{trail, fix-at, each};
+ghost use Rattle.record.specs.Reading.{filled, times-of, xs-of, ys-of, read-answer, times-read, xs-read, ys-read};
+ghost use Rattle.record.specs.Answers.{read-count};
+use crate::AllRead;
+use crate::Checked;
+use crate::check;
+use distance::Centimetres;
+use distance::Seconds;
+use format::count_at;
+use format::fix_at;
+
+// A time into its place of a column, if the column has that place.
+fn put_time(column: &mut [u32], k: usize, t: Seconds)
+    ensures { λ _. ⌜ now (column .exit) ≡ set (now (column .entry)) k (t .0) ⌝ }
+{
+    if k < column.len() {
+        column[k] = t.0;
+    }
+}
+
+// A coordinate into its place of a column, if the column has that place.
+fn put_coordinate(column: &mut [i16], k: usize, c: Centimetres)
+    ensures { λ _. ⌜ now (column .exit) ≡ set (now (column .entry)) k (c .0) ⌝ }
+{
+    let z = c.0;
+    if k < column.len() {
+        column[k] = z;
+    }
+}
+
+// The first n fixes into the columns.
+fn fill(b: &[u8], n: usize, ts: &mut [u32], xs: &mut [i16], ys: &mut [i16])
+    requires { ⌜ (n ≤ 4096) × (10 + 8 * n ≤ length (now b)) ⌝ }
+    ensures { λ _. ⌜ (now (ts .exit) ≡ filled (now (ts .entry)) (times-of (each (fix-at trail (now (b .entry))) 0 n))) × (now (xs .exit) ≡ filled (now (xs .entry)) (xs-of (each (fix-at trail (now (b .entry))) 0 n))) × (now (ys .exit) ≡ filled (now (ys .entry)) (ys-of (each (fix-at trail (now (b .entry))) 0 n))) ⌝ }
+{
+    let mut k = 0;
+    while k < n {
+        let f = fix_at(b, k);
+        put_time(ts, k, f.t);
+        put_coordinate(xs, k, f.x);
+        put_coordinate(ys, k, f.y);
+        k += 1;
+    }
+}
+
+// All fixes of a record that checks 1 to 9 accept, into three columns: each gets as many as it holds. The answer is how many the record has.
+pub fn read_all(b: &[u8], ts: &mut [u32], xs: &mut [i16], ys: &mut [i16]) -> AllRead
+    ensures { λ r. ⌜ (read-count r ≡ read-answer trail (now (b .entry))) × (now (ts .exit) ≡ times-read trail (now (b .entry)) (now (ts .entry))) × (now (xs .exit) ≡ xs-read trail (now (b .entry)) (now (xs .entry))) × (now (ys .exit) ≡ ys-read trail (now (b .entry)) (now (ys .entry))) ⌝ }
+{
+    let v = check(b);
+    match v {
+        Checked::Refused(k) => AllRead::Refused(k),
+        Checked::Accepted => {
+            let n = count_at(b);
+            fill(b, n, ts, xs, ys);
+            AllRead::Count(n as u32)
+        },
+    }
+}
