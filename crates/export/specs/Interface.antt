@@ -1,4 +1,5 @@
 -- THE INTERFACE'S NUMBERS: what the layers' definitions give, as programs in other languages get it. A refusal is its number, and 0 is none.
+-- `declared.X` is the struct X of the code.
 use mathlib.Core.List.{List}
 use mathlib.Core.Option.{Option, some, none}
 use Prim.Native.Nat.{ℕ}
@@ -7,12 +8,14 @@ use Rattle.distance.specs.Fix.{Fix}
 use Rattle.distance.specs.Box.{Box}
 use Rattle.format.specs.Format.{trail, count-field, mark-field}
 use Rattle.record.specs.Checks.{read-refusal}
-use Rattle.record.specs.Answers.{Answer, gives, turns-away}
+use Rattle.record.specs.Answers.{Answer, gives, turns-away, answer}
+use Rattle.record.specs.Reading.{yields}
 use Rattle.moment.specs.Moment.{Standing}
 use Rattle.legs.specs.declared.Fraction.{Fraction}
 use Rattle.export.specs.declared.Head.{Head}
 use Rattle.export.specs.declared.Step.{Step}
 use Rattle.export.specs.declared.Answer.{Answer as Numbers}
+use Rattle.export.specs.declared.Run.{Run}
 use Rattle.export.specs.declared.Spot.{Spot}
 use Rattle.export.specs.declared.Crossing.{Crossing}
 
@@ -24,15 +27,25 @@ checked-numbers (some k) b = record { refusal = k; count = 0; mark = 0 }
 abbrev pub head-numbers : List ℕ → Head
 head-numbers b = checked-numbers (read-refusal trail b) b
 
--- A fix, if there is one.
-abbrev pub step-numbers : Option Fix → Step
-step-numbers none = record { found = 0; t = 0; x = pos 0; y = pos 0 }
-step-numbers (some f) = record { found = 1; t = f .t; x = f .x; y = f .y }
+-- The reader makes checks 1 to 9, and yields the fix at a position or says that none is left.
+abbrev pub yield-answer : List ℕ → (position : ℕ) → Answer (Option Fix)
+yield-answer b position = answer (read-refusal trail b) (yields trail b position)
+
+-- A fix, if there is one, unless there is a refusal.
+abbrev pub step-numbers : Answer (Option Fix) → Step
+step-numbers (gives (some f)) = record { refusal = 0; found = 1; t = f .t; x = f .x; y = f .y }
+step-numbers (gives none) = record { refusal = 0; found = 0; t = 0; x = pos 0; y = pos 0 }
+step-numbers (turns-away k) = record { refusal = k; found = 0; t = 0; x = pos 0; y = pos 0 }
 
 -- A value, unless there is a refusal.
 abbrev pub value-numbers : Answer ℕ → Numbers
 value-numbers (gives n) = record { refusal = 0; value = n }
 value-numbers (turns-away k) = record { refusal = k; value = 0 }
+
+-- How many calls of a list were turned away, unless there is a refusal.
+abbrev pub run-numbers : Answer ℕ → Run
+run-numbers (gives n) = record { refusal = 0; «turned_away» = n }
+run-numbers (turns-away k) = record { refusal = k; «turned_away» = 0 }
 
 -- A place's fraction, whose denominator is at least 1, and the rounded place, unless there is a refusal.
 abbrev pub spot-numbers : Answer Standing → Spot

@@ -12,11 +12,12 @@ ghost use Prim.Native.Nat.{_≤_};
 ghost use lib.ListN.{length, drop};
 ghost use Rattle.format.specs.Format.{trail};
 ghost use Rattle.text.specs.Text.{text};
-ghost use Rattle.record.specs.Reading.{yields};
+ghost use Rattle.record.specs.Reading.{read-answer, times-read, xs-read, ys-read};
+ghost use Rattle.record.specs.Answers.{gives, found};
 ghost use Rattle.writing.specs.Writing.{columns, write-answer, written};
 ghost use Rattle.thinning.specs.Answers.{counted};
 ghost use Rattle.thinning.specs.Aging.{age-answer, aged, days-answer, aged-by-days};
-ghost use Rattle.export.specs.Interface.{head-numbers, step-numbers, value-numbers};
+ghost use Rattle.export.specs.Interface.{head-numbers, yield-answer, step-numbers, value-numbers};
 
 // Whether a record was accepted, and then what its head says.
 #[repr(C)]
@@ -26,9 +27,10 @@ pub struct Head {
     pub mark: u32,
 }
 
-// A fix, where one was found.
+// A refusal, or a fix, where one was found.
 #[repr(C)]
 pub struct Step {
+    pub refusal: u32,
     pub found: u32,
     pub t: u32,
     pub x: i32,
@@ -40,6 +42,13 @@ pub struct Step {
 pub struct Answer {
     pub refusal: u32,
     pub value: u32,
+}
+
+// A refusal, or how many calls of a list were turned away.
+#[repr(C)]
+pub struct Run {
+    pub refusal: u32,
+    pub turned_away: usize,
 }
 
 // A refusal, or the place (x/denominator, y/denominator) and the rounded one.
@@ -97,16 +106,15 @@ pub extern "C" fn trails_check(b: &[u8]) -> Head
     }
 }
 
-// The fix that a reader at this position yields.
-#[no_mangle]
-pub extern "C" fn trails_read(b: &[u8], position: usize) -> Step
-    ensures { λ r. ⌜ r ≡ step-numbers (yields trail (now (b .entry)) position) ⌝ }
+// What a reader yielded, as numbers.
+fn step_of(s: record::Step) -> Step
+    ensures { λ r. ⌜ r ≡ step-numbers (gives (found s)) ⌝ }
 {
-    let s = record::read_at(b, position);
     match s {
         record::Step::Found(f) => {
             let t = f.t;
             Step {
+                refusal: 0,
                 found: 1,
                 t: t.0,
                 x: whole(f.x),
@@ -114,10 +122,47 @@ pub extern "C" fn trails_read(b: &[u8], position: usize) -> Step
             }
         },
         record::Step::NoneLeft => Step {
+            refusal: 0,
             found: 0,
             t: 0,
             x: 0,
             y: 0,
+        },
+    }
+}
+
+// The fix that a reader at this position yields, after checks 1 to 9.
+#[no_mangle]
+pub extern "C" fn trails_read(b: &[u8], position: usize) -> Step
+    ensures { λ r. ⌜ r ≡ step-numbers (yield-answer (now (b .entry)) position) ⌝ }
+{
+    let c = record::check(b);
+    match c {
+        record::Checked::Refused(k) => Step {
+            refusal: wide(k),
+            found: 0,
+            t: 0,
+            x: 0,
+            y: 0,
+        },
+        record::Checked::Accepted => step_of(record::read_at(b, position)),
+    }
+}
+
+// All fixes, after checks 1 to 9, in three columns: the inverse of trails_write.
+#[no_mangle]
+pub extern "C" fn trails_read_all(b: &[u8], t: &mut [u32], x: &mut [i16], y: &mut [i16]) -> Answer
+    ensures { λ r. ⌜ (r ≡ value-numbers (read-answer trail (now (b .entry)))) × (now (t .exit) ≡ times-read trail (now (b .entry)) (now (t .entry))) × (now (x .exit) ≡ xs-read trail (now (b .entry)) (now (x .entry))) × (now (y .exit) ≡ ys-read trail (now (b .entry)) (now (y .entry))) ⌝ }
+{
+    let a = record::read_all(b, t, x, y);
+    match a {
+        record::AllRead::Count(n) => Answer {
+            refusal: 0,
+            value: n,
+        },
+        record::AllRead::Refused(k) => Answer {
+            refusal: wide(k),
+            value: 0,
         },
     }
 }

@@ -1,5 +1,6 @@
 // The questions and the lists of agings, for programs in other languages.
 use crate::Crossing;
+use crate::Run;
 use crate::Spot;
 use crossing::Crossed;
 use crossing::Edge;
@@ -7,16 +8,18 @@ use crossing::Edges;
 use crossing::Window;
 use distance::Seconds;
 use moment::Placed;
+use questions::Ran;
 ghost use mathlib.Core.Path.{_≡_};
 ghost use Rattle.format.specs.Format.{trail, never, mark-field};
 ghost use Rattle.record.specs.Checks.{IsAccepted};
 ghost use Rattle.moment.specs.Answers.{placed};
 ghost use Rattle.crossing.specs.Answers.{crossed, boxOf};
 ghost use Rattle.moment.specs.Moment.{place-answer};
-ghost use Rattle.crossing.specs.Crossing.{cross-answer};
-ghost use Rattle.questions.specs.Agings.{run, calls-of};
+ghost use Rattle.crossing.specs.Crossing.{cross-answer, CrossMeans};
+ghost use Rattle.questions.specs.Agings.{run, run-answer, after-answer, left-after, calls-of};
+ghost use Rattle.questions.specs.Answers.{ran};
 ghost use Rattle.questions.specs.Claim.{Claim};
-ghost use Rattle.export.specs.Interface.{spot-numbers, crossing-numbers, box-of};
+ghost use Rattle.export.specs.Interface.{spot-numbers, crossing-numbers, run-numbers, box-of};
 
 fn spot_of(p: Placed) -> Spot
     ensures { λ r. ⌜ r ≡ spot-numbers (placed p) ⌝ }
@@ -48,11 +51,11 @@ fn crossing_of(c: Crossed) -> Crossing
     ensures { λ r. ⌜ r ≡ crossing-numbers (crossed c) ⌝ }
 {
     match c {
-        Crossed::Told(n, d) => Crossing {
+        Crossed::Told(f) => Crossing {
             refusal: 0,
             crosses: 1,
-            numerator: n,
-            denominator: d as u32,
+            numerator: f.num,
+            denominator: f.den as u32,
         },
         Crossed::Denied => Crossing {
             refusal: 0,
@@ -109,21 +112,39 @@ pub extern "C" fn trails_crosses(
     bottom: i32,
     top: i32,
 ) -> Crossing
-    ensures { λ r. ⌜ r ≡ crossing-numbers (cross-answer trail (now (b .entry)) start end (box-of left right bottom top)) ⌝ }
+    ensures { λ r. ⌜ (r ≡ crossing-numbers (cross-answer trail (now (b .entry)) start end (box-of left right bottom top))) × CrossMeans trail (now (b .entry)) start end (box-of left right bottom top) (cross-answer trail (now (b .entry)) start end (box-of left right bottom top)) ⌝ }
 {
     let c = crossing::crosses(b, window(start, end), edges(left, right, bottom, top));
     crossing_of(c)
 }
 
-// Makes the agings of a list, one after the other.
-#[no_mangle]
-pub extern "C" fn trails_run(b: &mut [u8], calls: &[u32])
-    ensures { λ _. ⌜ now (b .exit) ≡ run (now (b .entry)) (calls-of (now (calls .entry))) ⌝ }
+// What making a list answers, as numbers.
+fn run_of(r: Ran) -> Run
+    ensures { λ n. ⌜ n ≡ run-numbers (ran r) ⌝ }
 {
-    questions::call_all(b, calls);
+    match r {
+        Ran::TurnedAway(n) => Run {
+            refusal: 0,
+            turned_away: n,
+        },
+        Ran::Refused(k) => Run {
+            refusal: crate::wide(k),
+            turned_away: 0,
+        },
+    }
 }
 
-// Makes the agings of a list, one after the other, and then asks whether what is left crosses a box in a window.
+// Makes the agings of a list, one after the other.
+#[no_mangle]
+pub extern "C" fn trails_run(b: &mut [u8], calls: &[u32]) -> Run
+    ensures { λ r. ⌜ (r ≡ run-numbers (run-answer (now (b .entry)) (calls-of (now (calls .entry))))) × (now (b .exit) ≡ run (now (b .entry)) (calls-of (now (calls .entry)))) ⌝ }
+{
+    let r = questions::call_all(b, calls);
+    run_of(r)
+}
+
+// Makes the agings of a list, one after the other, and then asks whether what is left crosses a box in a window; a question that is refused is refused
+// first, and then nothing is done.
 #[no_mangle]
 pub extern "C" fn trails_crosses_after(
     b: &mut [u8],
@@ -135,7 +156,7 @@ pub extern "C" fn trails_crosses_after(
     bottom: i32,
     top: i32,
 ) -> Crossing
-    ensures { λ r. ⌜ (now (b .exit) ≡ run (now (b .entry)) (calls-of (now (calls .entry)))) × (r ≡ crossing-numbers (cross-answer trail (run (now (b .entry)) (calls-of (now (calls .entry)))) start end (box-of left right bottom top))) × (IsAccepted trail (now (b .entry)) → mark-field (now (b .entry)) ≡ never → Claim (now (b .entry)) (calls-of (now (calls .entry)))) ⌝ }
+    ensures { λ r. ⌜ (r ≡ crossing-numbers (after-answer (now (b .entry)) (calls-of (now (calls .entry))) start end (box-of left right bottom top))) × (now (b .exit) ≡ left-after (now (b .entry)) (calls-of (now (calls .entry))) start end (box-of left right bottom top)) × (IsAccepted trail (now (b .entry)) → mark-field (now (b .entry)) ≡ never → Claim (now (b .entry)) (calls-of (now (calls .entry)))) ⌝ }
 {
     let c = questions::crosses_after(
         b,

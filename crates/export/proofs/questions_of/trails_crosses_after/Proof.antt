@@ -1,8 +1,10 @@
 use mir.Syntax.{w32}
 use mir.Facts.{toZ-ofZ}
+use denote.Ref.{now}
 use mathlib.Core.Path.{_∙_, ap}
 use Rattle.export.specs.Interface.{crossing-numbers}
-use Rattle.export.specs.Laws.{same-crossing, same-box}
+use Rattle.questions.specs.Agings.{calls-of, after-answer, left-after}
+use Rattle.export.specs.Laws.{same-asked, same-box}
 use borrow.Author.Needs.{needs}
 use Rattle.export.proofs.questions_of.trails_crosses_after.Statement.{statement}
 use Rattle.export.proofs.questions_of.trails_crosses_after.Tie as tie
@@ -29,7 +31,12 @@ returns c =
     let e = c .before .before .before .before .edges .ensures
     ∙ same-box (toZ-ofZ {w = w32} {z = a .left} (search needs)) (toZ-ofZ {w = w32} {z = a .right} (search needs)) (toZ-ofZ {w = w32} {z = a .bottom} (search needs)) (toZ-ofZ {w = w32} {z = a .top} (search needs)) in
     let done = c .before .before .before .crosses-after .ensures in
-    (done .0, c .crossing-of .ensures ∙ ap crossing-numbers (done .1 ∙ same-crossing (done .0) (w .0) (w .1) e), done .2)
+    let b = now (a .b) in
+    let calls = calls-of (now (a .calls)) in (
+      c .crossing-of .ensures ∙ ap crossing-numbers (done .0 ∙ same-asked (after-answer b calls) (w .0) (w .1) e),
+      done .1 ∙ same-asked (left-after b calls) (w .0) (w .1) e,
+      done .2,
+    )
 
 pub trails-crosses-after-spec : {M : Type 1} → statement M
 trails-crosses-after-spec =
