@@ -5,4 +5,5 @@ pub mod Head
 pub mod Reading
 pub mod Columns
 pub mod Accepted
+pub mod Rest
 pub mod Trail

@@ -39,7 +39,8 @@ begins K b = position-for (read-refusal K b)
 unfoldable pub told-refusal : Kind → List ℕ → (at : ℕ) → Option ℕ
 told-refusal K b at = cond (ltb at past-every-fix) none (read-refusal K b)
 
--- ---- ALL FIXES AT ONCE, into three lent columns: the times, the x and the y
+-- ---- ALL FIXES AT ONCE, in order, into three lent columns: their times, x and y. "the reader and the listing [make checks] 1 to 9"; "A refusal is its
+-- number and nothing more, with all lent bytes untouched".
 -- A column that values are put into from its first place on: as many as it holds, and its later places as they were.
 unfoldable pub filled : {A : Type 0} → (column values : List A) → List A
 filled column values = take (length column) values ++ drop (length values) column
@@ -53,7 +54,7 @@ xs-of = map (λ (f : Fix). f .x)
 abbrev pub ys-of : List Fix → List ℤ
 ys-of = map (λ (f : Fix). f .y)
 
--- The answer is the record's count, or the refusal ..
+-- The answer is the record's count, however long the columns are, or the refusal ..
 abbrev pub read-answer : Kind → List ℕ → Answer ℕ
 read-answer K b = answer (read-refusal K b) (count-field b)
 

@@ -2,15 +2,19 @@
 use mathlib.Core.Path.{_≡_, refl, sym}
 use mathlib.Core.Logic.{_↔_}
 use mathlib.Core.Bool.{Bool, true, false, cond}
-use mathlib.Core.List.{List, [], _∷_, _++_}
+use mathlib.Core.List.{List, [], _∷_, _++_, map}
 use mathlib.Core.Option.{some, none}
 use Prim.Native.Nat.{ℕ}
 use native.Mathlib.Omega.{arith}
 use Rattle.format.specs.Format.{Kind}
-use Rattle.record.specs.Checks.{Check, Given, Asked, number, first, FirstHolds, this, not-before, sentence, asked-of, refusal, reading, writing, aging, aging-by-days, placing, crossing, read-refusal}
+use Rattle.record.specs.Checks.{Check, Given, Asked, number, order, first, FirstHolds, this, not-before, sentence, asked-of, refusal, reading, writing, aging, aging-by-days, placing, crossing, read-refusal}
 
 pub some-none : {k : ℕ} → some k ≡ none → ⊥
 some-none e = let z : _≡_ {A = ℕ} 0 1 = cc in omega arith
+
+-- the checks in their order have document 01's numbers
+pub order-numbers : map number order ≡ 1 ∷ 2 ∷ 3 ∷ 4 ∷ 5 ∷ 6 ∷ 7 ∷ 8 ∷ 9 ∷ 10 ∷ 11 ∷ 12 ∷ 13 ∷ 14 ∷ 15 ∷ []
+order-numbers = refl
 
 module _ (says : Check → Bool) where
   -- a sentence that holds ends the search, and one that doesn't hands it on

@@ -1,0 +1,97 @@
+-- THE READER IN NUMBERS. Bytes, written out, and what document 01 says of them: the definitions and the code cannot be changed together without these
+-- rows. Each line is computed.
+use mathlib.Core.Path.{_≡_, refl}
+use mathlib.Core.List.{List, [], _∷_}
+use mathlib.Core.Option.{Option, some, none}
+use Prim.Native.Nat.{ℕ}
+use lib.IntN.{pos, negℤ}
+use Rattle.distance.specs.Fix.{last-of}
+use Rattle.format.specs.Bytes.{number-at, signed}
+use Rattle.format.specs.Format.{trail, fix-at, each}
+use Rattle.format.specs.Examples.{Computes, document-bytes}
+use Rattle.record.specs.Checks.{first, sentence, some-outside, some-early-after, some-early, of-ends, read-refusal}
+use Rattle.record.specs.Answers.{gives, turns-away}
+use Rattle.record.specs.Reading.{filled, stands, yields, read-answer, times-read, xs-read, ys-read}
+
+-- Lent bytes, and the number of their refusal: a record's length (4 bytes), kind (2), mark (2) and count (2), and the fixes of 8 bytes.
+abbrev pub read-rows : List (List ℕ × Option ℕ)
+read-rows =
+    -- document 01's 18 bytes: one fix, (1000, −1, 2), never thinned
+    (document-bytes, none)
+    -- bytes after the record are ignored
+    ∷ (18 ∷ 0 ∷ 0 ∷ 0 ∷ 1 ∷ 0 ∷ 255 ∷ 255 ∷ 1 ∷ 0 ∷ 232 ∷ 3 ∷ 0 ∷ 0 ∷ 255 ∷ 255 ∷ 2 ∷ 0 ∷ 1 ∷ 2 ∷ 3 ∷ [], none)
+    -- 1. "The lent bytes are fewer than 10.": none, and 9; with 10 they are a head, of a record that is cut off
+    ∷ ([], some 1)
+    ∷ (18 ∷ 0 ∷ 0 ∷ 0 ∷ 1 ∷ 0 ∷ 255 ∷ 255 ∷ 1 ∷ [], some 1)
+    ∷ (18 ∷ 0 ∷ 0 ∷ 0 ∷ 1 ∷ 0 ∷ 255 ∷ 255 ∷ 1 ∷ 0 ∷ [], some 5)
+    -- 2. "The kind isn't 1.": 0, 2, and 257, whose lower byte is 1
+    ∷ (18 ∷ 0 ∷ 0 ∷ 0 ∷ 0 ∷ 0 ∷ 255 ∷ 255 ∷ 1 ∷ 0 ∷ 232 ∷ 3 ∷ 0 ∷ 0 ∷ 255 ∷ 255 ∷ 2 ∷ 0 ∷ [], some 2)
+    ∷ (18 ∷ 0 ∷ 0 ∷ 0 ∷ 2 ∷ 0 ∷ 255 ∷ 255 ∷ 1 ∷ 0 ∷ 232 ∷ 3 ∷ 0 ∷ 0 ∷ 255 ∷ 255 ∷ 2 ∷ 0 ∷ [], some 2)
+    ∷ (18 ∷ 0 ∷ 0 ∷ 0 ∷ 1 ∷ 1 ∷ 255 ∷ 255 ∷ 1 ∷ 0 ∷ 232 ∷ 3 ∷ 0 ∷ 0 ∷ 255 ∷ 255 ∷ 2 ∷ 0 ∷ [], some 2)
+    -- 3. "The count is 0 or above 4,096.": 0, and 4,097 with the length that goes with it; 4,096 is not, and such a head alone is cut off
+    ∷ (10 ∷ 0 ∷ 0 ∷ 0 ∷ 1 ∷ 0 ∷ 255 ∷ 255 ∷ 0 ∷ 0 ∷ [], some 3)
+    ∷ (18 ∷ 128 ∷ 0 ∷ 0 ∷ 1 ∷ 0 ∷ 255 ∷ 255 ∷ 1 ∷ 16 ∷ [], some 3)
+    ∷ (10 ∷ 128 ∷ 0 ∷ 0 ∷ 1 ∷ 0 ∷ 255 ∷ 255 ∷ 0 ∷ 16 ∷ [], some 5)
+    -- 4. "The length field isn't 10 + 8 times the count.": 17, 19, and 65,554, whose lower half is 18
+    ∷ (17 ∷ 0 ∷ 0 ∷ 0 ∷ 1 ∷ 0 ∷ 255 ∷ 255 ∷ 1 ∷ 0 ∷ 232 ∷ 3 ∷ 0 ∷ 0 ∷ 255 ∷ 255 ∷ 2 ∷ 0 ∷ [], some 4)
+    ∷ (19 ∷ 0 ∷ 0 ∷ 0 ∷ 1 ∷ 0 ∷ 255 ∷ 255 ∷ 1 ∷ 0 ∷ 232 ∷ 3 ∷ 0 ∷ 0 ∷ 255 ∷ 255 ∷ 2 ∷ 0 ∷ 0 ∷ [], some 4)
+    ∷ (18 ∷ 0 ∷ 1 ∷ 0 ∷ 1 ∷ 0 ∷ 255 ∷ 255 ∷ 1 ∷ 0 ∷ 232 ∷ 3 ∷ 0 ∷ 0 ∷ 255 ∷ 255 ∷ 2 ∷ 0 ∷ [], some 4)
+    -- 5. "The lent bytes are fewer than the length field.": one byte too few
+    ∷ (18 ∷ 0 ∷ 0 ∷ 0 ∷ 1 ∷ 0 ∷ 255 ∷ 255 ∷ 1 ∷ 0 ∷ 232 ∷ 3 ∷ 0 ∷ 0 ∷ 255 ∷ 255 ∷ 2 ∷ [], some 5)
+    -- 6. "The mark is above 32,000 and isn't 65,535.": 0 and 32,000 are not, 32,001 and 65,534 are
+    ∷ (18 ∷ 0 ∷ 0 ∷ 0 ∷ 1 ∷ 0 ∷ 0 ∷ 0 ∷ 1 ∷ 0 ∷ 232 ∷ 3 ∷ 0 ∷ 0 ∷ 255 ∷ 255 ∷ 2 ∷ 0 ∷ [], none)
+    ∷ (18 ∷ 0 ∷ 0 ∷ 0 ∷ 1 ∷ 0 ∷ 0 ∷ 125 ∷ 1 ∷ 0 ∷ 232 ∷ 3 ∷ 0 ∷ 0 ∷ 255 ∷ 255 ∷ 2 ∷ 0 ∷ [], none)
+    ∷ (18 ∷ 0 ∷ 0 ∷ 0 ∷ 1 ∷ 0 ∷ 1 ∷ 125 ∷ 1 ∷ 0 ∷ 232 ∷ 3 ∷ 0 ∷ 0 ∷ 255 ∷ 255 ∷ 2 ∷ 0 ∷ [], some 6)
+    ∷ (18 ∷ 0 ∷ 0 ∷ 0 ∷ 1 ∷ 0 ∷ 254 ∷ 255 ∷ 1 ∷ 0 ∷ 232 ∷ 3 ∷ 0 ∷ 0 ∷ 255 ∷ 255 ∷ 2 ∷ 0 ∷ [], some 6)
+    -- 7. "Some x or y is outside −16,000 to 16,000.": the limits are not, and 16,001 and −16,001 are, of x and of y
+    ∷ (18 ∷ 0 ∷ 0 ∷ 0 ∷ 1 ∷ 0 ∷ 255 ∷ 255 ∷ 1 ∷ 0 ∷ 232 ∷ 3 ∷ 0 ∷ 0 ∷ 128 ∷ 62 ∷ 128 ∷ 193 ∷ [], none)
+    ∷ (18 ∷ 0 ∷ 0 ∷ 0 ∷ 1 ∷ 0 ∷ 255 ∷ 255 ∷ 1 ∷ 0 ∷ 232 ∷ 3 ∷ 0 ∷ 0 ∷ 128 ∷ 193 ∷ 128 ∷ 62 ∷ [], none)
+    ∷ (18 ∷ 0 ∷ 0 ∷ 0 ∷ 1 ∷ 0 ∷ 255 ∷ 255 ∷ 1 ∷ 0 ∷ 232 ∷ 3 ∷ 0 ∷ 0 ∷ 129 ∷ 62 ∷ 2 ∷ 0 ∷ [], some 7)
+    ∷ (18 ∷ 0 ∷ 0 ∷ 0 ∷ 1 ∷ 0 ∷ 255 ∷ 255 ∷ 1 ∷ 0 ∷ 232 ∷ 3 ∷ 0 ∷ 0 ∷ 127 ∷ 193 ∷ 2 ∷ 0 ∷ [], some 7)
+    ∷ (18 ∷ 0 ∷ 0 ∷ 0 ∷ 1 ∷ 0 ∷ 255 ∷ 255 ∷ 1 ∷ 0 ∷ 232 ∷ 3 ∷ 0 ∷ 0 ∷ 255 ∷ 255 ∷ 129 ∷ 62 ∷ [], some 7)
+    ∷ (18 ∷ 0 ∷ 0 ∷ 0 ∷ 1 ∷ 0 ∷ 255 ∷ 255 ∷ 1 ∷ 0 ∷ 232 ∷ 3 ∷ 0 ∷ 0 ∷ 255 ∷ 255 ∷ 127 ∷ 193 ∷ [], some 7)
+    -- 8. "Some fix's time isn't later than the time before it.": a second later is accepted, the same time and an earlier one are not
+    ∷ (26 ∷ 0 ∷ 0 ∷ 0 ∷ 1 ∷ 0 ∷ 255 ∷ 255 ∷ 2 ∷ 0 ∷ 5 ∷ 0 ∷ 0 ∷ 0 ∷ 0 ∷ 0 ∷ 0 ∷ 0 ∷ 6 ∷ 0 ∷ 0 ∷ 0 ∷ 0 ∷ 0 ∷ 0 ∷ 0 ∷ [], none)
+    ∷ (26 ∷ 0 ∷ 0 ∷ 0 ∷ 1 ∷ 0 ∷ 255 ∷ 255 ∷ 2 ∷ 0 ∷ 5 ∷ 0 ∷ 0 ∷ 0 ∷ 0 ∷ 0 ∷ 0 ∷ 0 ∷ 5 ∷ 0 ∷ 0 ∷ 0 ∷ 0 ∷ 0 ∷ 0 ∷ 0 ∷ [], some 8)
+    ∷ (26 ∷ 0 ∷ 0 ∷ 0 ∷ 1 ∷ 0 ∷ 255 ∷ 255 ∷ 2 ∷ 0 ∷ 5 ∷ 0 ∷ 0 ∷ 0 ∷ 0 ∷ 0 ∷ 0 ∷ 0 ∷ 4 ∷ 0 ∷ 0 ∷ 0 ∷ 0 ∷ 0 ∷ 0 ∷ 0 ∷ [], some 8)
+    -- 9. "The last time less the first is above 65,535."
+    ∷ (26 ∷ 0 ∷ 0 ∷ 0 ∷ 1 ∷ 0 ∷ 255 ∷ 255 ∷ 2 ∷ 0 ∷ 5 ∷ 0 ∷ 0 ∷ 0 ∷ 0 ∷ 0 ∷ 0 ∷ 0 ∷ 4 ∷ 0 ∷ 1 ∷ 0 ∷ 0 ∷ 0 ∷ 0 ∷ 0 ∷ [], none)
+    ∷ (26 ∷ 0 ∷ 0 ∷ 0 ∷ 1 ∷ 0 ∷ 255 ∷ 255 ∷ 2 ∷ 0 ∷ 5 ∷ 0 ∷ 0 ∷ 0 ∷ 0 ∷ 0 ∷ 0 ∷ 0 ∷ 5 ∷ 0 ∷ 1 ∷ 0 ∷ 0 ∷ 0 ∷ 0 ∷ 0 ∷ [], some 9)
+    -- the first that holds is said: 2 and 3; 5 and 6; 6 and 7; 7 and 8; 8 and 9
+    ∷ (10 ∷ 0 ∷ 0 ∷ 0 ∷ 2 ∷ 0 ∷ 255 ∷ 255 ∷ 0 ∷ 0 ∷ [], some 2)
+    ∷ (18 ∷ 0 ∷ 0 ∷ 0 ∷ 1 ∷ 0 ∷ 1 ∷ 125 ∷ 1 ∷ 0 ∷ [], some 5)
+    ∷ (18 ∷ 0 ∷ 0 ∷ 0 ∷ 1 ∷ 0 ∷ 1 ∷ 125 ∷ 1 ∷ 0 ∷ 232 ∷ 3 ∷ 0 ∷ 0 ∷ 129 ∷ 62 ∷ 2 ∷ 0 ∷ [], some 6)
+    ∷ (26 ∷ 0 ∷ 0 ∷ 0 ∷ 1 ∷ 0 ∷ 255 ∷ 255 ∷ 2 ∷ 0 ∷ 5 ∷ 0 ∷ 0 ∷ 0 ∷ 0 ∷ 0 ∷ 0 ∷ 0 ∷ 5 ∷ 0 ∷ 0 ∷ 0 ∷ 129 ∷ 62 ∷ 0 ∷ 0 ∷ [], some 7)
+    ∷ (34 ∷ 0 ∷ 0 ∷ 0 ∷ 1 ∷ 0 ∷ 255 ∷ 255 ∷ 3 ∷ 0 ∷ 5 ∷ 0 ∷ 0 ∷ 0 ∷ 0 ∷ 0 ∷ 0 ∷ 0 ∷ 112 ∷ 17 ∷ 1 ∷ 0 ∷ 0 ∷ 0 ∷ 0 ∷ 0 ∷ 111 ∷ 17 ∷ 1 ∷ 0 ∷ 0 ∷ 0 ∷ 0 ∷ 0 ∷ [], some 8)
+    ∷ []
+
+-- All rows in one statement.
+pub reader-says : Computes (read-refusal trail) read-rows
+unfolding first sentence some-outside some-early-after some-early last-of of-ends fix-at each number-at signed
+reader-says = refl
+
+-- ---- a reader over document 01's 18 bytes yields "fix 1000 -1 2", and then none
+pub document-yields : yields trail document-bytes 0 ∷ yields trail document-bytes 1 ∷ [] ≡ some (record { t = 1000; x = negℤ (pos 1); y = pos 2 }) ∷ none ∷ []
+unfolding yields stands fix-at number-at signed
+document-yields = refl
+
+-- ---- all fixes at once: (5, 7, −8) and (6, −9, 10), into columns of no, one and three places; and of the same bytes less one nothing is read
+abbrev pub lent-two : List ℕ
+lent-two = 26 ∷ 0 ∷ 0 ∷ 0 ∷ 1 ∷ 0 ∷ 255 ∷ 255 ∷ 2 ∷ 0 ∷ 5 ∷ 0 ∷ 0 ∷ 0 ∷ 7 ∷ 0 ∷ 248 ∷ 255 ∷ 6 ∷ 0 ∷ 0 ∷ 0 ∷ 247 ∷ 255 ∷ 10 ∷ 0 ∷ []
+
+abbrev pub lent-short : List ℕ
+lent-short = 26 ∷ 0 ∷ 0 ∷ 0 ∷ 1 ∷ 0 ∷ 255 ∷ 255 ∷ 2 ∷ 0 ∷ 5 ∷ 0 ∷ 0 ∷ 0 ∷ 7 ∷ 0 ∷ 248 ∷ 255 ∷ 6 ∷ 0 ∷ 0 ∷ 0 ∷ 247 ∷ 255 ∷ 10 ∷ []
+
+pub two-read : (read-answer trail lent-two ≡ gives 2)
+    × (times-read trail lent-two [] ≡ [])
+    × (xs-read trail lent-two (pos 1 ∷ []) ≡ pos 7 ∷ [])
+    × (ys-read trail lent-two (pos 1 ∷ pos 2 ∷ pos 3 ∷ []) ≡ negℤ (pos 8) ∷ pos 10 ∷ pos 3 ∷ [])
+unfolding first sentence some-outside some-early-after some-early last-of of-ends fix-at each number-at signed filled
+two-read = (refl, refl, refl, refl)
+
+pub none-read : (read-answer trail lent-short ≡ turns-away 5)
+    × (times-read trail lent-short (1 ∷ 2 ∷ []) ≡ 1 ∷ 2 ∷ [])
+    × (xs-read trail lent-short (pos 1 ∷ pos 2 ∷ []) ≡ pos 1 ∷ pos 2 ∷ [])
+    × (ys-read trail lent-short (pos 1 ∷ pos 2 ∷ []) ≡ pos 1 ∷ pos 2 ∷ [])
+unfolding first sentence some-outside some-early-after some-early last-of of-ends fix-at each number-at signed filled
+none-read = (refl, refl, refl, refl)

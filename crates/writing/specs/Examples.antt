@@ -1,0 +1,71 @@
+-- THE WRITER IN NUMBERS. Fixes, the length of an output, and what document 01 says of them: the definitions and the code cannot be changed together
+-- without these rows. Each line is computed.
+use mathlib.Core.Path.{_≡_, refl}
+use mathlib.Core.List.{List, [], _∷_}
+use mathlib.Core.Option.{Option, some, none}
+use Prim.Native.Nat.{ℕ}
+use lib.IntN.{ℤ, pos, negℤ}
+use Rattle.distance.specs.Fix.{Fix, last-of}
+use Rattle.format.specs.Bytes.{bytes-of, unsigned}
+use Rattle.format.specs.Format.{trail, each, fix-bytes, all-bytes, header-bytes, record-bytes}
+use Rattle.format.specs.Examples.{Computes, document-fixes}
+use Rattle.record.specs.Checks.{first, sentence, some-outside, some-early-after, some-early, of-ends, refusal, writing}
+use Rattle.record.specs.Answers.{gives, turns-away}
+use Rattle.writing.specs.Writing.{asked-to-write, write-answer, written}
+
+abbrev pub a-fix : (t : ℕ) (x y : ℤ) → Fix
+a-fix t x y = record { t = t; x = x; y = y }
+
+-- a fix for each second
+abbrev pub a-second-each : ℕ → Fix
+a-second-each t = a-fix t (pos 0) (pos 0)
+
+-- A list of fixes and how many bytes the output has, and the number of the refusal.
+abbrev pub write-rows : List ((List Fix × ℕ) × Option ℕ)
+write-rows =
+    -- 3. "The count is 0 or above 4,096.": no fix; 4,096 fixes are accepted, 4,097 are not
+    (([], 100), some 3)
+    ∷ ((each a-second-each 0 4096, 32778), none)
+    ∷ ((each a-second-each 0 4097, 40000), some 3)
+    -- 7. "Some x or y is outside −16,000 to 16,000."
+    ∷ ((a-fix 5 (pos 16000) (negℤ (pos 16000)) ∷ [], 18), none)
+    ∷ ((a-fix 5 (pos 16001) (pos 0) ∷ [], 18), some 7)
+    ∷ ((a-fix 5 (negℤ (pos 16001)) (pos 0) ∷ [], 18), some 7)
+    ∷ ((a-fix 5 (pos 0) (pos 16001) ∷ [], 18), some 7)
+    ∷ ((a-fix 5 (pos 0) (negℤ (pos 16001)) ∷ [], 18), some 7)
+    -- 8. "Some fix's time isn't later than the time before it."
+    ∷ ((a-fix 5 (pos 0) (pos 0) ∷ a-fix 6 (pos 0) (pos 0) ∷ [], 26), none)
+    ∷ ((a-fix 5 (pos 0) (pos 0) ∷ a-fix 5 (pos 0) (pos 0) ∷ [], 26), some 8)
+    ∷ ((a-fix 5 (pos 0) (pos 0) ∷ a-fix 4 (pos 0) (pos 0) ∷ [], 26), some 8)
+    -- 9. "The last time less the first is above 65,535."
+    ∷ ((a-fix 5 (pos 0) (pos 0) ∷ a-fix 65540 (pos 0) (pos 0) ∷ [], 26), none)
+    ∷ ((a-fix 5 (pos 0) (pos 0) ∷ a-fix 65541 (pos 0) (pos 0) ∷ [], 26), some 9)
+    -- 15. "The output has fewer than 10 + 8n bytes."
+    ∷ ((a-fix 5 (pos 0) (pos 0) ∷ [], 18), none)
+    ∷ ((a-fix 5 (pos 0) (pos 0) ∷ [], 17), some 15)
+    ∷ ((a-fix 5 (pos 0) (pos 0) ∷ a-fix 6 (pos 0) (pos 0) ∷ [], 25), some 15)
+    -- the first that holds is said: 3 and 15; 7 and 8; 8 and 9; 9 and 15
+    ∷ (([], 0), some 3)
+    ∷ ((a-fix 5 (pos 0) (pos 0) ∷ a-fix 5 (pos 16001) (pos 0) ∷ [], 26), some 7)
+    ∷ ((a-fix 5 (pos 0) (pos 0) ∷ a-fix 70000 (pos 0) (pos 0) ∷ a-fix 69999 (pos 0) (pos 0) ∷ [], 34), some 8)
+    ∷ ((a-fix 5 (pos 0) (pos 0) ∷ a-fix 65541 (pos 0) (pos 0) ∷ [], 25), some 9)
+    ∷ []
+
+-- All rows in one statement.
+pub writer-says : Computes (λ (r : List Fix × ℕ). refusal trail writing (asked-to-write (r .0) (r .1))) write-rows
+unfolding first sentence some-outside some-early-after some-early last-of of-ends each
+writer-says = refl
+
+-- ---- (1000, −1, 2) into an output of 20 bytes: document 01's 18 bytes, and the two after them as they were; and into one of 17, which stays
+abbrev pub twenty : List ℕ
+twenty = 1 ∷ 2 ∷ 3 ∷ 4 ∷ 5 ∷ 6 ∷ 7 ∷ 8 ∷ 9 ∷ 10 ∷ 11 ∷ 12 ∷ 13 ∷ 14 ∷ 15 ∷ 16 ∷ 17 ∷ 18 ∷ 19 ∷ 20 ∷ []
+
+abbrev pub seventeen : List ℕ
+seventeen = 1 ∷ 2 ∷ 3 ∷ 4 ∷ 5 ∷ 6 ∷ 7 ∷ 8 ∷ 9 ∷ 10 ∷ 11 ∷ 12 ∷ 13 ∷ 14 ∷ 15 ∷ 16 ∷ 17 ∷ []
+
+pub one-written : (write-answer trail document-fixes twenty ≡ gives 18)
+    × (written trail document-fixes twenty ≡ 18 ∷ 0 ∷ 0 ∷ 0 ∷ 1 ∷ 0 ∷ 255 ∷ 255 ∷ 1 ∷ 0 ∷ 232 ∷ 3 ∷ 0 ∷ 0 ∷ 255 ∷ 255 ∷ 2 ∷ 0 ∷ 19 ∷ 20 ∷ [])
+    × (write-answer trail document-fixes seventeen ≡ turns-away 15)
+    × (written trail document-fixes seventeen ≡ seventeen)
+unfolding first sentence some-outside some-early-after some-early last-of of-ends record-bytes header-bytes all-bytes fix-bytes bytes-of unsigned
+one-written = (refl, refl, refl, refl)
