@@ -32,7 +32,7 @@ fn elapsed(a: Seconds, b: Seconds) -> Duration
 }
 
 // N of one axis: d is the whole span's time, s the time from its start to m.
-fn offset(i: Centimetres, m: Centimetres, j: Centimetres, d: Duration, s: Duration) -> i64
+fn axis_deviation(i: Centimetres, m: Centimetres, j: Centimetres, d: Duration, s: Duration) -> i64
     ensures { λ r. ⌜ r ≡ N (i .0) (m .0) (j .0) (pos (d .0)) (pos (s .0)) ⌝ }
 {
     let start = i.0 as i64;
@@ -46,8 +46,8 @@ pub fn deviation(i: Fix, m: Fix, j: Fix) -> u64
 {
     let d = elapsed(i.t, j.t);
     let s = elapsed(i.t, m.t);
-    let nx = offset(i.x, m.x, j.x, d, s);
-    let ny = offset(i.y, m.y, j.y, d, s);
+    let nx = axis_deviation(i.x, m.x, j.x, d, s);
+    let ny = axis_deviation(i.y, m.y, j.y, d, s);
     (nx * nx + ny * ny) as u64
 }
 

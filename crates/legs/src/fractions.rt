@@ -3,7 +3,7 @@ use crate::Fraction;
 use crate::Meeting;
 use crate::Times;
 ghost use mathlib.Core.Path.{_≡_};
-ghost use Prim.Native.Nat.{_*_, _-_};
+ghost use Prim.Native.Nat.{_*_};
 ghost use Rattle.legs.specs.Legs.{times, later-of, earlier-of, both, first-of};
 ghost use Rattle.legs.specs.Answers.{meeting};
 

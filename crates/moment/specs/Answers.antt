@@ -1,4 +1,5 @@
 -- What the enums of the code say, as the paper's numbers and values.
+-- `declared.X` is the struct or enum X of the code, `the-variants` the cases of an enum, and `.0` the number in a struct of one field.
 use lib.IntN.{pos}
 use Rattle.record.specs.Answers.{Answer, gives, turns-away}
 use Rattle.moment.specs.declared.Spot.{Spot}

@@ -2,5 +2,7 @@
 pub mod Rounding
 pub mod Moment
 pub mod Answers
+-- that they give the paper's numbers, by computing:
+pub mod Examples
 -- and what engineers prove of it:
 pub mod Laws

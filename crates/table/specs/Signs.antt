@@ -24,7 +24,7 @@ pub record Below (z : ℤ) : Type 0 where
   pub word : Fits w64 (natAbs (negsuc 0 -ℤ z))
   pub one-more : Fits w64 (natAbs (negsuc 0 -ℤ z) + 1)
 
-pub record NotBelow (z : ℤ) : Type 0 where
+pub record FromZero (z : ℤ) : Type 0 where
   pub unsigned : T (nonNeg z)
   pub word : Fits w64 (natAbs z)
 
@@ -35,6 +35,6 @@ below (negsuc n) f h =
     let k : n < 9223372036854775808 = f .sfits in
     record { less = rw e (record { sfits = k }); unsigned = rw e tt; word = rw e (record { fits = omega arith }); one-more = rw e (record { fits = omega arith }) }
 
-pub from : (z : ℤ) → SFits w64 z → ltZ z (pos 0) ≡ false → NotBelow z
+pub from : (z : ℤ) → SFits w64 z → ltZ z (pos 0) ≡ false → FromZero z
 from (pos n) f h = let k : n < 9223372036854775808 = f .sfits in record { unsigned = tt; word = record { fits = omega arith } }
 from (negsuc n) f h = absurd (false-true (sym h))

@@ -10,8 +10,7 @@ use moment::Spot;
 use record::Checked;
 use record::Step;
 use writing::Written;
-ghost use Prim.Native.Nat.{_≤_};
-ghost use Rattle.table.specs.Fractions.{Divides};
+ghost use Rattle.table.specs.Fractions.{Greatest};
 
 pub fn word(text: &[u8]) {
     io::write_all(libc::STDOUT_FILENO, text);
@@ -214,9 +213,9 @@ pub fn placed(p: Placed) {
     }
 }
 
-// What divides both numbers of a fraction, by Euclid the greatest that does; 1 if both are 0.
+// The greatest number that divides both numbers of a fraction, by Euclid; 1 if both are 0.
 fn common(n: u32, d: u32) -> u32
-    ensures { λ r. ⌜ (1 ≤ r) × Divides r n × Divides r d ⌝ }
+    ensures { λ r. ⌜ Greatest n d r ⌝ }
 {
     let mut a = n;
     let mut b = d;

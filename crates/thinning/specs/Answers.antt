@@ -1,4 +1,5 @@
 -- What the enums of the code say, as the paper's numbers and values.
+-- `declared.X` is the enum X of the code, `the-variants` its cases, and `.0` the number in a struct of one field.
 use mathlib.Core.Option.{Option, some, none}
 use Prim.Native.Nat.{ℕ}
 use Rattle.record.specs.Answers.{Answer, gives, turns-away}

@@ -2,6 +2,8 @@
 pub mod Thinning
 pub mod Aging
 pub mod Answers
+-- that they give the paper's numbers, by computing:
+pub mod Examples
 -- what the code promises on the way to it:
 pub mod Marks
 pub mod Spans

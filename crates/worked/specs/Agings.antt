@@ -1,4 +1,5 @@
 -- The program's agings are those of the worked rows: what its loop answers and leaves is what `aged-all` of the questions layer's specs/Worked.antt gives.
+-- `declared.Aged` is the enum Aged of the thinning layer's code, and `the-variants` its cases.
 use mathlib.Core.Path.{_≡_, refl, sym, _∙_, ap}
 use mathlib.Core.List.{List}
 use Prim.Native.Nat.{ℕ, suc, _+_, _<_, _≤_}

@@ -152,7 +152,7 @@ fn apart(label: &[u8], seconds: u32) {
     table::word(b"\n");
 }
 
-// ---- the table, and the line below it
+// ---- the table; the line below it, and a moment whose thousandths have three different digits
 
 fn thinned() {
     aged(b"a", trail_a(), &[0]);
@@ -175,6 +175,7 @@ fn beside() {
     apart(b"span", 65535);
     apart(b"span", 65536);
     apart(b"equal times", 0);
+    placed(b"k", trail_k(), 1, 234);
 }
 
 fn main() {

@@ -18,7 +18,7 @@ abbrev of-duration : (n : ℕ) → Fits w16 n → Bound (pos n)
 of-duration n f = record { top = 65535; holds = omega (arith, f .fits) }
 
 -- N, from places of 16 bits and durations: every part of it fits 64
-pub record OffsetFits (i m j : ℤ) (d s : ℕ) : Type 0 where
+pub record AxisFits (i m j : ℤ) (d s : ℕ) : Type 0 where
   pub i16 : SFits w16 i
   pub m16 : SFits w16 m
   pub j16 : SFits w16 j
@@ -33,8 +33,8 @@ pub record OffsetFits (i m j : ℤ) (d s : ℕ) : Type 0 where
   pub j-i-s : SFits w64 ((j -ℤ i) *ℤ pos s)
   pub all : SFits w64 (N i m j (pos d) (pos s))
 
-pub offset-fits : {i m j : ℤ} {d s : ℕ} → SFits w16 i → SFits w16 m → SFits w16 j → Fits w16 d → Fits w16 s → OffsetFits i m j d s
-offset-fits {d} {s} fi fm fj fd fs =
+pub axis-fits : {i m j : ℤ} {d s : ℕ} → SFits w16 i → SFits w16 m → SFits w16 j → Fits w16 d → Fits w16 s → AxisFits i m j d s
+axis-fits {d} {s} fi fm fj fd fs =
     let m-i = of-width w16 fm ⊝ of-width w16 fi in
     let j-i = of-width w16 fj ⊝ of-width w16 fi in
     let m-i-d = m-i ⊛ of-duration d fd in

@@ -12,7 +12,22 @@ use Rattle.distance.specs.Integers.Ring.{ring, quotes, lit, vars}
 use Rattle.distance.specs.Integers.Order.{gap, nat, le-by, _⊞_, _⊠_}
 use Rattle.moment.specs.Rounding.{floored, rounded, Nearest}
 
--- r ≤ z/d < r + 1
+-- ---- what Nearest gives, taken apart: no whole number is nearer to n/d, and of two that are as near r is the upper one ..
+pub nearest-gives : {n d r : ℤ} → Nearest n d r
+    → ((z : ℤ) → natAbs (r *ℤ d -ℤ n) ≤ natAbs (z *ℤ d -ℤ n)) × ((z : ℤ) → natAbs (z *ℤ d -ℤ n) ≡ natAbs (r *ℤ d -ℤ n) → z ≤ℤ r)
+nearest-gives h = (h .nearest, h .upward)
+
+-- .. so it is one number
+pub nearest-one : {n d r s : ℤ} → Nearest n d r → Nearest n d s → r ≡ s
+nearest-one {r} {s} h k =
+    let near = h .nearest s in
+    let back = k .nearest r in
+    both-ways (k .upward r (omega arith)) (h .upward s (omega arith))
+  where
+    both-ways : {x y : ℤ} → x ≤ℤ y → y ≤ℤ x → x ≡ y
+    both-ways {x} {y} p q = split x (λ a b e. split y (λ c d f. simp (e, f, diffs) (omega (arith, simp (e, f, diffs) at p, simp (e, f, diffs) at q))))
+
+-- ---- the whole number below a fraction: r ≤ z/d < r + 1
 pub floor-low : (z : ℤ) (d : ℕ) → 1 ≤ d → (floored z d *ℤ pos d) ≤ℤ z
 unfolding floored
 floor-low (pos n) d h = simp diffs (omega (arith, div-mul-le-self n d))

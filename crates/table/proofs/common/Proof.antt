@@ -1,12 +1,12 @@
 use native.Mathlib.Nat.{mod-lt}
 use native.Mathlib.Omega.{arith}
 use borrow.Author.Needs.{needs}
-use Rattle.table.specs.Fractions.{Common, at-first, next, at-last, one-divides}
+use Rattle.table.specs.Fractions.{SameDivisors, at-first, next, at-last, at-zeros}
 use Rattle.table.proofs.common.Statement.{statement}
 use Rattle.table.proofs.common.Tie as tie
 
 abbrev Inv-loop : tie.InvT-loop
-Inv-loop n d a₀ b₀ a b = Common n d a b
+Inv-loop n d a₀ b₀ a b = SameDivisors n d a b
 
 abbrev μ-loop : tie.MeasureT-loop
 μ-loop n d a₀ b₀ a b = b
@@ -21,13 +21,13 @@ loop-less : tie.Need-loop-less Inv-loop μ-loop
 loop-less c = mod-lt _ (search needs)
 
 loop-again : tie.Need-loop-again Inv-loop μ-loop
-loop-again c = next _ _ _ _ (c .before .loop .inv)
+loop-again c = next _ _ _ _ (search needs) (c .before .loop .inv)
 
 returns : tie.Need-returns Inv-loop μ-loop
-returns c = (omega arith, one-divides _, one-divides _)
+returns c = at-zeros _ _ _ _ (c .before .before .loop .inv) (omega arith) (omega arith)
 
 returns-2 : tie.Need-returns-2 Inv-loop μ-loop
-returns-2 c = let k = at-last _ _ _ _ (c .before .before .loop .inv) (omega arith) in (omega arith, k .0, k .1)
+returns-2 c = at-last _ _ _ _ (c .before .before .loop .inv) (omega arith) (omega arith)
 
 pub common-spec : {M : Type 1} → statement M
 common-spec =

@@ -1,7 +1,7 @@
 use mir.Facts.{toZ-ofZ}
 use mir.Syntax.{w64}
 use mir.Val.{SFits}
-use Rattle.table.specs.Signs.{Below, NotBelow, below, from}
+use Rattle.table.specs.Signs.{Below, FromZero, below, from}
 use borrow.Author.Needs.{needs}
 use Rattle.table.proofs.whole.Statement.{statement}
 use Rattle.table.proofs.whole.Tie as tie
@@ -12,7 +12,7 @@ fits s = search needs
 under : (c : tie.Then1) → Below (c .before .args .z)
 under c = let k = fits (c .before) in below _ k (simp (toZ-ofZ, k) at (c .if1 .taken))
 
-over : (c : tie.Else1) → NotBelow (c .before .args .z)
+over : (c : tie.Else1) → FromZero (c .before .args .z)
 over c = let k = fits (c .before) in from _ k (simp (toZ-ofZ, k) at (c .if1 .left))
 
 slice-aggregate-word : tie.Need-slice-aggregate-word
