@@ -2,7 +2,7 @@
 pub mod Rounding
 pub mod Moment
 pub mod Answers
--- that they give the paper's numbers, by computing:
+-- rows of numbers, computed on those definitions:
 pub mod Examples
 -- and what engineers prove of it:
 pub mod Laws

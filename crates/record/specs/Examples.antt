@@ -70,6 +70,12 @@ pub reader-says : Computes (read-refusal trail) read-rows
 unfolding first sentence some-outside some-early-after some-early last-of of-ends fix-at each number-at signed
 reader-says = refl
 
+-- What an operation that makes the reader's checks too has of the rows that the reader refuses: `f` of the bytes and the number.
+abbrev pub on-refused : {A : Type 0} → (f : List ℕ → ℕ → A) → List (List ℕ × Option ℕ) → List A
+on-refused f [] = []
+on-refused f ((b, none) ∷ rows) = on-refused f rows
+on-refused f ((b, some k) ∷ rows) = f b k ∷ on-refused f rows
+
 -- ---- a reader over document 01's 18 bytes yields "fix 1000 -1 2", and then none
 pub document-yields : yields trail document-bytes 0 ∷ yields trail document-bytes 1 ∷ [] ≡ some (record { t = 1000; x = negℤ (pos 1); y = pos 2 }) ∷ none ∷ []
 unfolding yields stands fix-at number-at signed

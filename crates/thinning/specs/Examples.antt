@@ -1,4 +1,5 @@
--- THE PAPER'S NUMBERS of the agings, computed from the definitions on literal days and bytes: a number moved in definition and code alike fails here.
+-- THE AGINGS IN NUMBERS. Days and bytes, written out, and what document 01 says of them: the definitions and the code cannot be changed together without
+-- these rows. Each line is computed.
 use mathlib.Core.Path.{_≡_, refl}
 use mathlib.Core.List.{List, [], _∷_, _++_}
 use mathlib.Core.Option.{Option, some, none}
@@ -7,115 +8,61 @@ use Rattle.distance.specs.Fix.{last-of}
 use Rattle.distance.specs.Distance.{deviation, allowance}
 use Rattle.format.specs.Bytes.{number-at, bytes-of, signed, unsigned}
 use Rattle.format.specs.Format.{fix-at, each, fix-bytes, all-bytes, header-bytes, record-bytes}
+use Rattle.format.specs.Examples.{Computes, document-bytes}
 use Rattle.record.specs.Checks.{sentence, first, some-outside, some-early-after, some-early, of-ends}
 use Rattle.record.specs.Answers.{Answer, gives, turns-away}
+use Rattle.record.specs.Examples.{read-rows, on-refused}
 use Rattle.thinning.specs.Thinning.{sooner, furthest, every, but-last, thin-span, thin, thinning}
 use Rattle.thinning.specs.Aging.{new-mark, thinned-record, last-row, days-give, Call, by-tolerance, by-days, left-by, answered}
 
 -- ---- the table: "from day 2, 10; from day 7, 25; from day 30, 100; from day 90, 400. Days 0 and 1 apply no tolerance"
--- A day, and what the table gives on it.
-pub data DayRow : Type 0 where
-  on-day : ℕ → Option ℕ → DayRow
-
-abbrev pub day-rows : List DayRow
+abbrev pub day-rows : List (ℕ × Option ℕ)
 day-rows =
-    on-day 0 none
-    ∷ on-day 1 none
-    ∷ on-day 2 (some 10)
-    ∷ on-day 6 (some 10)
-    ∷ on-day 7 (some 25)
-    ∷ on-day 29 (some 25)
-    ∷ on-day 30 (some 100)
-    ∷ on-day 89 (some 100)
-    ∷ on-day 90 (some 400)
-    ∷ on-day 65535 (some 400)
+    (0, none)
+    ∷ (1, none)
+    ∷ (2, some 10)
+    ∷ (6, some 10)
+    ∷ (7, some 25)
+    ∷ (29, some 25)
+    ∷ (30, some 100)
+    ∷ (89, some 100)
+    ∷ (90, some 400)
+    ∷ (65535, some 400)
     ∷ []
 
--- The same days, with what the definition gives.
-abbrev pub days-again : List DayRow → List DayRow
-days-again [] = []
-days-again (on-day d t ∷ l) = on-day d (days-give d) ∷ days-again l
-
-pub days-computed : days-again day-rows ≡ day-rows
+pub days-computed : Computes days-give day-rows
 unfolding last-row
 days-computed = refl
 
--- ---- the refusals
--- Lent bytes, and the number of the check that turns them away.
-pub data BadRecord : Type 0 where
-  bad-record : List ℕ → ℕ → BadRecord
-
--- The head of a record of one fix up to its count, with this length, kind and mark; a fix; and document 01's 18 bytes.
-abbrev pub lone-head : (length kind mark-low mark-high : ℕ) → List ℕ
-lone-head n k l h = n ∷ 0 ∷ 0 ∷ 0 ∷ k ∷ 0 ∷ l ∷ h ∷ 1 ∷ 0 ∷ []
-
-abbrev pub lone-fix : List ℕ
-lone-fix = 232 ∷ 3 ∷ 0 ∷ 0 ∷ 255 ∷ 255 ∷ 2 ∷ 0 ∷ []
-
-abbrev pub lone-record : List ℕ
-lone-record = lone-head 18 1 255 255 ++ lone-fix
-
--- Two fixes of one place, the second at the time that these bytes say.
-abbrev pub pair-at : (t0 t1 t2 t3 : ℕ) → List ℕ
-pair-at t0 t1 t2 t3 = 26 ∷ 0 ∷ 0 ∷ 0 ∷ 1 ∷ 0 ∷ 255 ∷ 255 ∷ 2 ∷ 0 ∷ 0 ∷ 0 ∷ 0 ∷ 0 ∷ 0 ∷ 0 ∷ 0 ∷ 0 ∷ t0 ∷ t1 ∷ t2 ∷ t3 ∷ 0 ∷ 0 ∷ 0 ∷ 0 ∷ []
-
-abbrev pub bad-records : List BadRecord
-bad-records =
-    -- 1. nine bytes
-    bad-record (18 ∷ 0 ∷ 0 ∷ 0 ∷ 1 ∷ 0 ∷ 255 ∷ 255 ∷ 1 ∷ []) 1
-    -- 2. kind 2
-    ∷ bad-record (lone-head 18 2 255 255 ++ lone-fix) 2
-    -- 3. no fix
-    ∷ bad-record (10 ∷ 0 ∷ 0 ∷ 0 ∷ 1 ∷ 0 ∷ 255 ∷ 255 ∷ 0 ∷ 0 ∷ []) 3
-    -- 4. a length of 17 for one fix
-    ∷ bad-record (lone-head 17 1 255 255 ++ lone-fix) 4
-    -- 5. the fix's last byte is missing
-    ∷ bad-record (lone-head 18 1 255 255 ++ 232 ∷ 3 ∷ 0 ∷ 0 ∷ 255 ∷ 255 ∷ 2 ∷ []) 5
-    -- 6. the mark 32,001
-    ∷ bad-record (lone-head 18 1 1 125 ++ lone-fix) 6
-    -- 7. x is 16,001
-    ∷ bad-record (lone-head 18 1 255 255 ++ 232 ∷ 3 ∷ 0 ∷ 0 ∷ 129 ∷ 62 ∷ 2 ∷ 0 ∷ []) 7
-    -- 8. both at second 0
-    ∷ bad-record (pair-at 0 0 0 0) 8
-    -- 9. 65,536 seconds apart
-    ∷ bad-record (pair-at 0 0 1 0) 9
-    ∷ []
-
--- A call on lent bytes: what it answers, and the bytes afterwards.
-pub data CallRow : Type 0 where
-  call-row : List ℕ → Call → Answer ℕ → List ℕ → CallRow
+-- ---- calls: lent bytes and a call, and then what it answers and the bytes afterwards
+abbrev pub CallRow : Type 0
+CallRow = (List ℕ × Call) × (Answer ℕ × List ℕ)
 
 -- A refusal leaves the bytes as they were.
-abbrev pub refuses : List ℕ → Call → ℕ → CallRow
-refuses b c k = call-row b c (turns-away k) b
+abbrev pub refuses : Call → List ℕ → ℕ → CallRow
+refuses c b k = ((b, c), (turns-away k, b))
 
--- One call on each of the bad records.
-abbrev pub on-each : Call → List BadRecord → List CallRow
-on-each c [] = []
-on-each c (bad-record b k ∷ l) = refuses b c k ∷ on-each c l
+-- The lone fix of document 01's 18 bytes, under a mark of these two bytes.
+abbrev pub marked : (low high : ℕ) → List ℕ
+marked low high = 18 ∷ 0 ∷ 0 ∷ 0 ∷ 1 ∷ 0 ∷ low ∷ high ∷ 1 ∷ 0 ∷ 232 ∷ 3 ∷ 0 ∷ 0 ∷ 255 ∷ 255 ∷ 2 ∷ 0 ∷ []
 
 abbrev pub call-rows : List CallRow
 call-rows =
-    on-each (by-tolerance 0) bad-records
-    ++ on-each (by-days 7) bad-records
-    -- checks 1 to 9 come before 10
-    ++ on-each (by-tolerance 32001) bad-records
+    -- what the reader refuses both agings refuse, 1 to 9, and before 10
+    on-refused (refuses (by-tolerance 0)) read-rows
+    ++ on-refused (refuses (by-days 7)) read-rows
+    ++ on-refused (refuses (by-tolerance 32001)) read-rows
     -- "Tolerance 32,000 passes, 32,001 is 10.": the lone fix stays, and the mark is 32,000
-    ++ call-row lone-record (by-tolerance 32000) (gives 0) (lone-head 18 1 0 125 ++ lone-fix)
-    ∷ refuses lone-record (by-tolerance 32001) 10
-    -- by days no tolerance is asked: day 1 leaves the record, day 2 marks it 10, and no day is turned away
-    ∷ call-row lone-record (by-days 1) (gives 0) lone-record
-    ∷ call-row lone-record (by-days 2) (gives 0) (lone-head 18 1 10 0 ++ lone-fix)
-    ∷ call-row lone-record (by-days 65535) (gives 0) (lone-head 18 1 144 1 ++ lone-fix)
-    -- "Span 65,535 passes"
-    ∷ call-row (pair-at 255 255 0 0) (by-days 1) (gives 0) (pair-at 255 255 0 0)
+    ++ ((document-bytes, by-tolerance 32000), (gives 0, marked 0 125))
+    ∷ refuses (by-tolerance 32001) document-bytes 10
+    -- by days no tolerance is asked: day 1 leaves the record, day 2 marks it 10, the last day 400, and none is turned away
+    ∷ ((document-bytes, by-days 1), (gives 0, document-bytes))
+    ∷ ((document-bytes, by-days 2), (gives 0, marked 10 0))
+    ∷ ((document-bytes, by-days 65535), (gives 0, marked 144 1))
+    -- a mark of 100 stays the greater of 100 and 25
+    ∷ ((marked 100 0, by-days 7), (gives 0, marked 100 0))
     ∷ []
 
--- The same calls, with what the definitions answer and leave.
-abbrev pub calls-again : List CallRow → List CallRow
-calls-again [] = []
-calls-again (call-row b c a d ∷ l) = call-row b c (answered b c) (left-by b c) ∷ calls-again l
-
-pub calls-computed : calls-again call-rows ≡ call-rows
+pub calls-computed : Computes (λ (p : List ℕ × Call). (answered (p .0) (p .1), left-by (p .0) (p .1))) call-rows
 unfolding thinned-record new-mark last-row thinning thin thin-span furthest sooner every but-last last-of deviation allowance first sentence some-outside some-early-after some-early of-ends fix-at each number-at signed unsigned bytes-of fix-bytes all-bytes header-bytes record-bytes
 calls-computed = refl

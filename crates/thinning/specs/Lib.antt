@@ -2,7 +2,7 @@
 pub mod Thinning
 pub mod Aging
 pub mod Answers
--- that they give the paper's numbers, by computing:
+-- rows of numbers, computed on those definitions:
 pub mod Examples
 -- what the code promises on the way to it:
 pub mod Marks
