@@ -1,6 +1,6 @@
 -- What a reader must believe:
 pub mod Text
--- its words and numbers, in bytes that are computed:
+-- rows of numbers, computed on those definitions:
 pub mod Examples
 -- and what engineers prove of it:
 pub mod Laws

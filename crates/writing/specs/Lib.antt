@@ -1,7 +1,7 @@
 -- What a reader must believe:
 pub mod Answers
 pub mod Writing
--- each number of the paper, in fixes and bytes that are computed:
+-- rows of numbers, computed on those definitions:
 pub mod Examples
 -- and what engineers prove of it:
 pub mod Laws
