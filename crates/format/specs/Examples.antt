@@ -2,10 +2,11 @@
 use mathlib.Core.Path.{_≡_, refl}
 use mathlib.Core.List.{List, [], _∷_, map}
 use Prim.Native.Nat.{ℕ}
+use lib.ListN.{take}
 use lib.IntN.{pos, negℤ}
 use Rattle.distance.specs.Fix.{Fix}
 use Rattle.format.specs.Bytes.{number-at, bytes-of, signed, unsigned}
-use Rattle.format.specs.Format.{trail, never, length-field, kind-field, mark-field, count-field, record-length, fix-at, each, fixes, fix-bytes, all-bytes, header-bytes, record-bytes}
+use Rattle.format.specs.Format.{trail, never, length-field, kind-field, mark-field, count-field, of-head, record-length, fix-at, each, fixes, fix-bytes, all-bytes, header-bytes, record-bytes}
 
 -- Of what stands first in each row, `f` gives what stands second.
 abbrev pub Computes : {A B : Type 0} → (f : A → B) → List (A × B) → Type 0
@@ -29,6 +30,12 @@ document-fixes = record { t = 1000; x = negℤ (pos 1); y = pos 2 } ∷ []
 pub head-reads : length-field document-bytes ∷ kind-field document-bytes ∷ mark-field document-bytes ∷ count-field document-bytes ∷ [] ≡ 18 ∷ 1 ∷ 65535 ∷ 1 ∷ []
 unfolding number-at
 head-reads = refl
+
+-- the count and the mark that a head tells, and 0 of 9 bytes, which are no head
+pub head-told : (of-head count-field document-bytes ∷ of-head mark-field document-bytes ∷ [] ≡ 1 ∷ 65535 ∷ [])
+    × (of-head count-field (take 9 document-bytes) ∷ of-head mark-field (take 9 document-bytes) ∷ [] ≡ 0 ∷ 0 ∷ [])
+unfolding of-head number-at
+head-told = (refl, refl)
 
 pub fix-reads : fixes trail document-bytes ≡ document-fixes
 unfolding each fix-at number-at signed

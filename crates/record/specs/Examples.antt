@@ -4,6 +4,7 @@ use mathlib.Core.Path.{_≡_, refl}
 use mathlib.Core.List.{List, [], _∷_}
 use mathlib.Core.Option.{Option, some, none}
 use Prim.Native.Nat.{ℕ}
+use lib.ListN.{take}
 use lib.IntN.{pos, negℤ}
 use Rattle.distance.specs.Fix.{last-of}
 use Rattle.format.specs.Bytes.{number-at, signed}
@@ -11,7 +12,7 @@ use Rattle.format.specs.Format.{trail, fix-at, each}
 use Rattle.format.specs.Examples.{Computes, document-bytes}
 use Rattle.record.specs.Checks.{first, sentence, some-outside, some-early-after, some-early, of-ends, read-refusal}
 use Rattle.record.specs.Answers.{gives, turns-away}
-use Rattle.record.specs.Reading.{filled, stands, yields, read-answer, times-read, xs-read, ys-read}
+use Rattle.record.specs.Reading.{filled, stands, yields, moves, begins, told-refusal, read-answer, times-read, xs-read, ys-read}
 
 -- Lent bytes, and the number of their refusal: a record's length (4 bytes), kind (2), mark (2) and count (2), and the fixes of 8 bytes.
 abbrev pub read-rows : List (List ℕ × Option ℕ)
@@ -81,12 +82,21 @@ pub document-yields : yields trail document-bytes 0 ∷ yields trail document-by
 unfolding yields stands fix-at number-at signed
 document-yields = refl
 
+-- .. it begins on fix 0, moves to 1 and stays there; over the first 17 of these bytes it begins past every fix, says 5 and yields none
+pub document-moves : begins trail document-bytes ∷ moves trail document-bytes 0 ∷ moves trail document-bytes 1 ∷ [] ≡ 0 ∷ 1 ∷ 1 ∷ []
+unfolding first sentence some-outside some-early-after some-early last-of of-ends fix-at each number-at signed moves stands
+document-moves = refl
+
+pub refused-reader : (begins trail (take 17 document-bytes) ≡ 65536) × (told-refusal trail (take 17 document-bytes) 65536 ≡ some 5) × (yields trail (take 17 document-bytes) 65536 ≡ none)
+unfolding first sentence number-at yields stands told-refusal
+refused-reader = (refl, refl, refl)
+
 -- ---- all fixes at once: (5, 7, −8) and (6, −9, 10), into columns of no, one and three places; and of the same bytes less one nothing is read
 abbrev pub lent-two : List ℕ
 lent-two = 26 ∷ 0 ∷ 0 ∷ 0 ∷ 1 ∷ 0 ∷ 255 ∷ 255 ∷ 2 ∷ 0 ∷ 5 ∷ 0 ∷ 0 ∷ 0 ∷ 7 ∷ 0 ∷ 248 ∷ 255 ∷ 6 ∷ 0 ∷ 0 ∷ 0 ∷ 247 ∷ 255 ∷ 10 ∷ 0 ∷ []
 
 abbrev pub lent-short : List ℕ
-lent-short = 26 ∷ 0 ∷ 0 ∷ 0 ∷ 1 ∷ 0 ∷ 255 ∷ 255 ∷ 2 ∷ 0 ∷ 5 ∷ 0 ∷ 0 ∷ 0 ∷ 7 ∷ 0 ∷ 248 ∷ 255 ∷ 6 ∷ 0 ∷ 0 ∷ 0 ∷ 247 ∷ 255 ∷ 10 ∷ []
+lent-short = take 25 lent-two
 
 pub two-read : (read-answer trail lent-two ≡ gives 2)
     × (times-read trail lent-two [] ≡ [])

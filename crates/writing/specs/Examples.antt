@@ -1,14 +1,15 @@
 -- THE WRITER IN NUMBERS. Fixes, the length of an output, and what document 01 says of them: the definitions and the code cannot be changed together
 -- without these rows. Each line is computed.
 use mathlib.Core.Path.{_≡_, refl}
-use mathlib.Core.List.{List, [], _∷_}
+use mathlib.Core.List.{List, [], _∷_, _++_}
 use mathlib.Core.Option.{Option, some, none}
 use Prim.Native.Nat.{ℕ}
+use lib.ListN.{take}
 use lib.IntN.{ℤ, pos, negℤ}
 use Rattle.distance.specs.Fix.{Fix, last-of}
 use Rattle.format.specs.Bytes.{bytes-of, unsigned}
 use Rattle.format.specs.Format.{trail, each, fix-bytes, all-bytes, header-bytes, record-bytes}
-use Rattle.format.specs.Examples.{Computes, document-fixes}
+use Rattle.format.specs.Examples.{Computes, document-bytes, document-fixes}
 use Rattle.record.specs.Checks.{first, sentence, some-outside, some-early-after, some-early, of-ends, refusal, writing}
 use Rattle.record.specs.Answers.{gives, turns-away}
 use Rattle.writing.specs.Writing.{asked-to-write, write-answer, written}
@@ -61,10 +62,10 @@ abbrev pub twenty : List ℕ
 twenty = 1 ∷ 2 ∷ 3 ∷ 4 ∷ 5 ∷ 6 ∷ 7 ∷ 8 ∷ 9 ∷ 10 ∷ 11 ∷ 12 ∷ 13 ∷ 14 ∷ 15 ∷ 16 ∷ 17 ∷ 18 ∷ 19 ∷ 20 ∷ []
 
 abbrev pub seventeen : List ℕ
-seventeen = 1 ∷ 2 ∷ 3 ∷ 4 ∷ 5 ∷ 6 ∷ 7 ∷ 8 ∷ 9 ∷ 10 ∷ 11 ∷ 12 ∷ 13 ∷ 14 ∷ 15 ∷ 16 ∷ 17 ∷ []
+seventeen = take 17 twenty
 
 pub one-written : (write-answer trail document-fixes twenty ≡ gives 18)
-    × (written trail document-fixes twenty ≡ 18 ∷ 0 ∷ 0 ∷ 0 ∷ 1 ∷ 0 ∷ 255 ∷ 255 ∷ 1 ∷ 0 ∷ 232 ∷ 3 ∷ 0 ∷ 0 ∷ 255 ∷ 255 ∷ 2 ∷ 0 ∷ 19 ∷ 20 ∷ [])
+    × (written trail document-fixes twenty ≡ document-bytes ++ 19 ∷ 20 ∷ [])
     × (write-answer trail document-fixes seventeen ≡ turns-away 15)
     × (written trail document-fixes seventeen ≡ seventeen)
 unfolding first sentence some-outside some-early-after some-early last-of of-ends record-bytes header-bytes all-bytes fix-bytes bytes-of unsigned
