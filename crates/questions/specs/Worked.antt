@@ -232,6 +232,8 @@ rows-below =
     ∷ row (span 0) read (turns-away 8)
     -- and of "The leg is the first whose end isn't earlier than the moment": at the second fix it is the leg that ends there
     ∷ row (trail-k ++ fix 30 0 0 ∷ []) (place-at 10 0) (stands-at (pos 50000) (minus 50000) (pos 10000) (pos 5) (minus 5))
+    -- and of a moment whose thousandths have three different digits, 1.234: 5·1234 over 10,000
+    ∷ row trail-k (place-at 1 234) (stands-at (pos 6170) (minus 6170) (pos 10000) (pos 1) (minus 1))
     ∷ []
 
 -- ---- both by computation, row by row
@@ -265,6 +267,7 @@ worked-below =
     and refl
     and tt
     and tt
+    and refl
     and refl
     and refl
     and refl
