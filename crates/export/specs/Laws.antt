@@ -19,7 +19,7 @@ use Rattle.record.specs.Laws.Head.{says, few}
 use Rattle.format.specs.Laws.Layout.{of-head-field}
 use Rattle.distance.specs.Box.{Box}
 use Rattle.record.specs.Reading.{yields, read-answer}
-use Rattle.thinning.specs.Aging.{Call, age-refusal, age-answer, days-refusal, days-answer}
+use Rattle.aging.specs.Aging.{Call, age-refusal, age-answer, days-refusal, days-answer}
 use Rattle.questions.specs.Agings.{run-answer, after-answer}
 use Rattle.moment.specs.Moment.{asked-moment, place-answer}
 use Rattle.crossing.specs.Crossing.{asked-crossing, cross-answer}

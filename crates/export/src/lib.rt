@@ -2,10 +2,10 @@
 // None asks anything of its caller, since nothing would check that. include/trails.h says the same to a C programmer.
 mod questions_of;
 
+use aging::Aged;
+use aging::Days;
 use distance::Centimetres;
 use distance::Tolerance;
-use thinning::Aged;
-use thinning::Days;
 ghost use mathlib.Core.Path.{_≡_};
 ghost use mathlib.Core.List.{_++_};
 ghost use Prim.Native.Nat.{_≤_};
@@ -15,8 +15,8 @@ ghost use Rattle.text.specs.Text.{text};
 ghost use Rattle.record.specs.Reading.{read-answer, times-read, xs-read, ys-read};
 ghost use Rattle.record.specs.Answers.{gives, found};
 ghost use Rattle.writing.specs.Writing.{columns, write-answer, written};
-ghost use Rattle.thinning.specs.Answers.{counted};
-ghost use Rattle.thinning.specs.Aging.{age-answer, aged, days-answer, aged-by-days};
+ghost use Rattle.aging.specs.Answers.{counted};
+ghost use Rattle.aging.specs.Aging.{age-answer, aged, days-answer, aged-by-days};
 ghost use Rattle.export.specs.Interface.{head-numbers, yield-answer, step-numbers, value-numbers};
 
 // Whether a record was accepted, and then what its head says.
@@ -214,7 +214,7 @@ fn count_of(a: Aged) -> Answer
 pub extern "C" fn trails_age(b: &mut [u8], tolerance: u16) -> Answer
     ensures { λ r. ⌜ (r ≡ value-numbers (age-answer (now (b .entry)) tolerance)) × (now (b .exit) ≡ aged (now (b .entry)) tolerance) ⌝ }
 {
-    let a = thinning::age(b, Tolerance(tolerance));
+    let a = aging::age(b, Tolerance(tolerance));
     count_of(a)
 }
 
@@ -223,6 +223,6 @@ pub extern "C" fn trails_age(b: &mut [u8], tolerance: u16) -> Answer
 pub extern "C" fn trails_age_by_days(b: &mut [u8], days: u16) -> Answer
     ensures { λ r. ⌜ (r ≡ value-numbers (days-answer (now (b .entry)) days)) × (now (b .exit) ≡ aged-by-days (now (b .entry)) days) ⌝ }
 {
-    let a = thinning::age_by_days(b, Days(days));
+    let a = aging::age_by_days(b, Days(days));
     count_of(a)
 }

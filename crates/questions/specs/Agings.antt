@@ -12,7 +12,7 @@ use Rattle.format.specs.Format.{trail, never, fixes}
 use Rattle.record.specs.Checks.{read-refusal}
 use Rattle.record.specs.Answers.{Answer, gives, turns-away, answer, unless}
 use Rattle.thinning.specs.Thinning.{thinned}
-use Rattle.thinning.specs.Aging.{Call, by-tolerance, by-days, left-by, answered, applies}
+use Rattle.aging.specs.Aging.{Call, by-tolerance, by-days, left-by, answered, applies}
 use Rattle.legs.specs.declared.Fraction.{Fraction}
 use Rattle.crossing.specs.Crossing.{cross-refusal, first-crossing}
 

@@ -11,7 +11,7 @@ use Rattle.distance.specs.Box.{Box, In, NearBox, NearSide}
 use Rattle.format.specs.Format.{trail, mark-field, length-field, fixes}
 use Rattle.record.specs.Checks.{IsAccepted, bad-window, bad-box, sentence, FirstHolds, asked-of}
 use Rattle.record.specs.Answers.{Answer, gives, turns-away}
-use Rattle.thinning.specs.Aging.{Call}
+use Rattle.aging.specs.Aging.{Call}
 use Rattle.legs.specs.declared.Fraction.{Fraction}
 use Rattle.crossing.specs.Crossing.{Told, Denied, after-first, asked-crossing, cross-answer}
 use Rattle.questions.specs.Agings.{Book, new-book, fed-all, run, after-answer, kept-at, mark-of, counts-as, AskedOf}

@@ -18,7 +18,7 @@ use Rattle.record.specs.Answers.{Answer, gives, turns-away}
 use Rattle.format.specs.Laws.Numbers.{false-true}
 use Rattle.format.specs.Laws.RoundTrip.{AreBytes}
 use Rattle.thinning.specs.Thinning.{sooner, furthest, every, but-last, thin-span, thin, thinning}
-use Rattle.thinning.specs.Aging.{Call, by-tolerance, by-days, new-mark, thinned-record, last-row}
+use Rattle.aging.specs.Aging.{Call, by-tolerance, by-days, new-mark, thinned-record, last-row}
 use Rattle.legs.specs.declared.Fraction.{Fraction}
 use Rattle.crossing.specs.Crossing.{first-crossing, first-from, cross-answer}
 use Rattle.legs.specs.Legs.{leg-first, leg-times, axis-times, first-of, later-of, earlier-of}

@@ -19,7 +19,7 @@ use Rattle.record.specs.Checks.{first, sentence, some-outside, some-early, some
 use Rattle.record.specs.Answers.{Answer, gives, turns-away, answer}
 use Rattle.writing.specs.Writing.{write-refusal, written}
 use Rattle.thinning.specs.Thinning.{sooner, furthest, every, but-last, thin-span, thin, thinning}
-use Rattle.thinning.specs.Aging.{by-tolerance, left-by, answered, new-mark, thinned-record}
+use Rattle.aging.specs.Aging.{by-tolerance, left-by, answered, new-mark, thinned-record}
 use Rattle.legs.specs.declared.Fraction.{Fraction}
 use Rattle.moment.specs.Rounding.{floored, rounded}
 use Rattle.moment.specs.Moment.{Standing, on-leg, moment-from, at-moment, place-answer}

@@ -1,18 +1,18 @@
 // Lists of agings: the calls of a lent list, made one after the other on one lent buffer.
+use aging::Aged;
+use aging::Days;
 use crossing::Crossed;
 use crossing::Edges;
 use crossing::Window;
 use distance::Tolerance;
 use record::Checked;
-use thinning::Aged;
-use thinning::Days;
 ghost use mathlib.Core.Path.{_≡_};
 ghost use Prim.Native.Nat.{_≤_};
 ghost use lib.ListN.{length};
 ghost use Rattle.format.specs.Format.{trail, never, mark-field};
 ghost use Rattle.record.specs.Checks.{IsAccepted};
-ghost use Rattle.thinning.specs.Aging.{left-by, answered};
-ghost use Rattle.thinning.specs.Answers.{counted};
+ghost use Rattle.aging.specs.Aging.{left-by, answered};
+ghost use Rattle.aging.specs.Answers.{counted};
 ghost use Rattle.crossing.specs.Answers.{crossed, boxOf};
 ghost use Rattle.questions.specs.Agings.{run, one-if-refused, refused-calls, run-answer, after-answer, left-after, call-of, calls-of};
 ghost use Rattle.questions.specs.Answers.{ran};
@@ -39,9 +39,9 @@ fn call(b: &mut [u8], n: u32) -> Aged
     ensures { λ r. ⌜ (counted r ≡ answered (now (b .entry)) (call-of n)) × (now (b .exit) ≡ left-by (now (b .entry)) (call-of n)) ⌝ }
 {
     if n < 65536 {
-        return thinning::age(b, Tolerance(n as u16));
+        return aging::age(b, Tolerance(n as u16));
     }
-    thinning::age_by_days(b, Days((n % 65536) as u16))
+    aging::age_by_days(b, Days((n % 65536) as u16))
 }
 
 // All calls of the list, each given the buffer as the one before left it; says how many were turned away.

@@ -9,6 +9,3 @@ pub mod Search
 pub mod KeptBy
 pub mod Marks
 pub mod Spans
-pub mod Pack
-pub mod Aging
-pub mod Step

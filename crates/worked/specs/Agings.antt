@@ -9,9 +9,9 @@ use lib.ListN.{length, drop, getD, drop-of-length-le}
 use lib.Seq.{drop-cons}
 use Rattle.format.specs.Format.{trail, fixes, mark-field}
 use Rattle.record.specs.Answers.{Answer, gives, turns-away}
-use Rattle.thinning.specs.declared.Aged.{Aged}
-use Rattle.thinning.specs.declared.Aged.the-variants.{Count, Refused}
-use Rattle.thinning.specs.Aging.{by-tolerance, left-by, answered}
+use Rattle.aging.specs.declared.Aged.{Aged}
+use Rattle.aging.specs.declared.Aged.the-variants.{Count, Refused}
+use Rattle.aging.specs.Aging.{by-tolerance, left-by, answered}
 use Rattle.questions.specs.Worked.{Left, unless-refused, aged-all}
 
 -- What agings answered, with what they left of the buffer.

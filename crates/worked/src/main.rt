@@ -1,6 +1,7 @@
 // Document 01's trails worked by hand, run through the calls that a line control makes: each is written as a record, and what is asked of it is asked of
 // the record's bytes. One line a row, to be laid beside the paper's table. Nothing here knows what the answers should be; specs/Worked.antt of the
 // questions layer proves them of the definitions.
+use aging::Aged;
 use crossing::Edge;
 use crossing::Edges;
 use crossing::Window;
@@ -8,7 +9,6 @@ use distance::Centimetres;
 use distance::Fix;
 use distance::Seconds;
 use distance::Tolerance;
-use thinning::Aged;
 ghost use mathlib.Core.Path.{_≡_};
 ghost use Rattle.questions.specs.Worked.{aged-all};
 ghost use Rattle.worked.specs.Agings.{leaving};
@@ -80,7 +80,7 @@ fn age_all(b: &mut [u8], es: &[u16]) -> Aged
     let mut count = 0;
     let mut i = 0;
     while i < es.len() {
-        let a = thinning::age(b, Tolerance(es[i]));
+        let a = aging::age(b, Tolerance(es[i]));
         match a {
             Aged::Refused(k) => {
                 return Aged::Refused(k);

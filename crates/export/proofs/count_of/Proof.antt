@@ -1,5 +1,5 @@
 use mathlib.Core.Path.{sym, ap}
-use Rattle.thinning.specs.Answers.{counted}
+use Rattle.aging.specs.Answers.{counted}
 use Rattle.export.specs.Interface.{value-numbers}
 use borrow.Author.Needs.{needs}
 use Rattle.export.proofs.count_of.Statement.{statement}

@@ -23,11 +23,11 @@ use Rattle.record.specs.Laws.First.{some-none}
 use Rattle.format.specs.Laws.RoundTrip.{AreBytes}
 use Rattle.record.specs.Laws.Accepted.{accepted-good}
 use Rattle.thinning.specs.Thinning.{thinned}
-use Rattle.thinning.specs.Aging.{Call, by-tolerance, by-days, left-by, answered, applies, new-mark, record-at, thinned-record}
+use Rattle.aging.specs.Aging.{Call, by-tolerance, by-days, left-by, answered, applies, new-mark, record-at, thinned-record}
 use Rattle.thinning.specs.Laws.Trail.{again, no-more}
 use Rattle.thinning.specs.Laws.Near.{thinned-near}
-use Rattle.thinning.specs.Laws.Aging.{age-reader, age-refused, days-refused}
-use Rattle.thinning.specs.Laws.Step.{thins, step, applies-low}
+use Rattle.aging.specs.Laws.Aging.{age-reader, age-refused, days-refused}
+use Rattle.aging.specs.Laws.Step.{thins, step, applies-low}
 use Rattle.questions.specs.Agings.{run, Book, new-book, greater, fed, fed-all, kept-at, mark-of, counts-as, AskedOf, call-of, calls-of, one-if-refused, refused-calls, run-answer}
 
 -- ---- what the buffer is after some of the calls: b is the original's buffer, c the present one

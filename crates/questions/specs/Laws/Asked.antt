@@ -10,9 +10,9 @@ use Rattle.format.specs.Format.{trail, fixes}
 use Rattle.format.specs.Laws.RoundTrip.{AreBytes}
 use Rattle.record.specs.Checks.{Check, IsAccepted, bad-window, bad-box, sentence, first, asked-of, of-ends, second-outside, read-refusal}
 use Rattle.record.specs.Answers.{Answer, turns-away, answer}
-use Rattle.thinning.specs.Aging.{Call, applies, record-at, thinned-record}
+use Rattle.aging.specs.Aging.{Call, applies, record-at, thinned-record}
 use Rattle.thinning.specs.Laws.Trail.{SameEnds, no-fixes, same-ends, ends-stay}
-use Rattle.thinning.specs.Laws.Step.{thins, step, applies-low}
+use Rattle.aging.specs.Laws.Step.{thins, step, applies-low}
 use Rattle.legs.specs.declared.Fraction.{Fraction}
 use Rattle.crossing.specs.Crossing.{asked-crossing, cross-refusal, cross-answer, first-crossing}
 use Rattle.crossing.specs.Laws.Checking.{two-left}

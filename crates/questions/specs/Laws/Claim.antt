@@ -20,7 +20,7 @@ use Rattle.record.specs.Answers.{gives, turns-away, answer}
 use Rattle.record.specs.Laws.First.{first-exactly, NoneHolds, and-not, none-holds}
 use Rattle.format.specs.Laws.RoundTrip.{AreBytes}
 use Rattle.record.specs.Laws.Accepted.{accepted-good, times-good}
-use Rattle.thinning.specs.Aging.{Call}
+use Rattle.aging.specs.Aging.{Call}
 use Rattle.thinning.specs.Laws.Trail.{SameEnds, no-fixes, same-ends, ends-stay, kept-rising}
 use Rattle.legs.specs.declared.Fraction.{Fraction}
 use Rattle.crossing.specs.Crossing.{Told, Denied, Means, after-first, asked-crossing, cross-answer, first-crossing}

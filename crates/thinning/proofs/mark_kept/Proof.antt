@@ -6,7 +6,7 @@ use Rattle.distance.specs.Distance.{deviation, allowance}
 use Rattle.format.specs.Format.{trail, fix-at}
 use Rattle.thinning.specs.Laws.Spans.{fewer}
 use Rattle.thinning.specs.Laws.Marks.{marks-length}
-use Rattle.thinning.specs.Laws.Aging.{marks-say}
+use Rattle.thinning.specs.Laws.Marks.{marks-say}
 use borrow.Author.Needs.{needs}
 use Rattle.thinning.proofs.mark_kept.Statement.{statement}
 use Rattle.thinning.proofs.mark_kept.Tie as tie

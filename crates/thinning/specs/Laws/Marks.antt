@@ -1,23 +1,23 @@
 -- From marks to thinning: the marks that `Marks` leaves say what thinning keeps, with the same count.
-use mathlib.Core.Path.{_≡_, refl, _∙_}
+use mathlib.Core.Path.{_≡_, refl, _∙_, ap}
 use mathlib.Core.Bool.{Bool, true, false}
 use mathlib.Core.List.{List}
 use Prim.Native.Nat.{ℕ, zero, suc, _+_, _*_, _-_, _<_, _≤_}
 use native.Mathlib.Nat.{le-refl, mul-le-mul, mul-le-mul-left}
 use native.Mathlib.Omega.{arith}
-use lib.ListN.{length, getD, length-set}
+use lib.ListN.{length, getD, set, length-set}
 use lib.Seq.{getD-set-same, getD-set-other}
 use Rattle.distance.specs.Fix.{Fix}
 use Rattle.distance.specs.Distance.{deviation, allowance}
 use Rattle.format.specs.Format.{each}
 use Rattle.format.specs.Laws.Each.{length-each}
-use Rattle.thinning.specs.Thinning.{thin, thinning}
-use Rattle.thinning.specs.Marks.{kept-by, Ready, Marks, marks-none, marks-ends, marks-split}
+use Rattle.thinning.specs.Thinning.{Thinned, thin, thinning}
+use Rattle.thinning.specs.Marks.{kept-by, Ready, Cleared, Says, Marks, marks-none, marks-ends, marks-split}
 use Rattle.distance.specs.Laws.All.{all-none}
 use Rattle.thinning.specs.Laws.Furthest.{Tops}
 use Rattle.thinning.specs.Laws.Keeps.{Keeps, ends-only, pieces-of, keeps-span}
 use Rattle.thinning.specs.Laws.Kept.{thin-ends}
-use Rattle.thinning.specs.Laws.KeptBy.{inner, inner-split, inner-all, kept-by-none, kept-by-same, kept-inner, each-ends, kept-ends}
+use Rattle.thinning.specs.Laws.KeptBy.{inner, inner-split, inner-all, kept-by-none, kept-by-same, kept-inner, each-ends, kept-ends, ready}
 
 -- ---- the count: with n = hi − lo, at most n·(n − 1)/2
 none-count : (n : ℕ) → n < 2 → 2 * 0 + n ≤ n * n
@@ -131,3 +131,10 @@ pub marks-thinning : (f : ℕ → Fix) (e n : ℕ) {c : ℕ} {k k2 : List Bool} 
     → thinning e (each f 0 n) ≡ record { kept = kept-by k2 0 (each f 0 n); count = c }
 unfolding thinning
 marks-thinning f e n h r m = marks-thin deviation allowance f e n h r m
+
+-- ---- the marks and the count are the definition's
+pub marks-say : (f : ℕ → Fix) (e n : ℕ) (k : List Bool) {k2 : List Bool} {c : ℕ} → Cleared k → 1 ≤ n → n ≤ length k → Marks deviation allowance f e 0 (n - 1) (set (set k 0 true) (n - 1) true) k2 c
+    → Says (thinning e (each f 0 n)) k2 (each f 0 n) c
+marks-say f e n k {k2} {c} clear one room m =
+    let t = marks-thinning f e n one (ready k n clear one room) m in
+    record { says-kept = ap (λ (t : Thinned Fix). t .kept) t; says-count = ap (λ (t : Thinned Fix). t .count) t }

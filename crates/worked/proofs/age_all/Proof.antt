@@ -1,7 +1,7 @@
 use Prim.Native.Nat.{_-_}
 use mathlib.Core.Path.{sym, _∙_, ap}
 use lib.ListN.{length}
-use Rattle.thinning.specs.Answers.{counted}
+use Rattle.aging.specs.Answers.{counted}
 use Rattle.worked.specs.Agings.{Going, begun, went-on, stopped, ended}
 use borrow.Author.Needs.{needs}
 use Rattle.worked.proofs.age_all.Statement.{statement}

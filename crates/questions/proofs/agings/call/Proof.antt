@@ -1,6 +1,6 @@
 use mathlib.Core.Path.{sym, _∙_, ap}
 use denote.Ref.{now}
-use Rattle.thinning.specs.Aging.{left-by, answered}
+use Rattle.aging.specs.Aging.{left-by, answered}
 use Rattle.questions.specs.Laws.Agings.{is-tolerance, is-days}
 use borrow.Author.Needs.{needs}
 use Rattle.questions.proofs.agings.call.Statement.{statement}

@@ -5,8 +5,8 @@ use native.Mathlib.Omega.{arith}
 use lib.ListN.{length, getD, take}
 use denote.Ref.{now}
 use borrow.Author.Needs.{needs}
-use Rattle.thinning.specs.Aging.{left-by, answered}
-use Rattle.thinning.specs.Answers.{counted}
+use Rattle.aging.specs.Aging.{left-by, answered}
+use Rattle.aging.specs.Answers.{counted}
 use Rattle.questions.specs.Agings.{run, one-if-refused, refused-calls, call-of, calls-of}
 use Rattle.questions.specs.Laws.Agings.{run-none, run-next, run-all, refused-first, refused-next, refused-all, at-most-one}
 use Rattle.questions.proofs.agings.call_each.Statement.{statement}

@@ -1,10 +1,10 @@
 use mathlib.Core.Path.{refl}
 use native.Mathlib.Omega.{arith}
 use borrow.Author.Tests.{eq-eqb, ne-eqb}
-use Rattle.thinning.specs.Aging.{new-mark}
+use Rattle.aging.specs.Aging.{new-mark}
 use borrow.Author.Needs.{needs}
-use Rattle.thinning.proofs.new_mark.Statement.{statement}
-use Rattle.thinning.proofs.new_mark.Tie as tie
+use Rattle.aging.proofs.new_mark.Statement.{statement}
+use Rattle.aging.proofs.new_mark.Tie as tie
 
 cast-t : tie.Need-cast-t
 cast-t c = search needs

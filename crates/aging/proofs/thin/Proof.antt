@@ -7,12 +7,12 @@ use denote.Ref.{now}
 use Rattle.format.specs.Format.{count-field}
 use Rattle.record.specs.Laws.Head.{Head}
 use Rattle.record.specs.Laws.Accepted.{accepted-good}
 use Rattle.thinning.specs.Laws.Spans.{accepted-spans}
 use Rattle.thinning.specs.Laws.KeptBy.{cleared-anew}
-use Rattle.thinning.specs.Laws.Aging.{record-is}
+use Rattle.aging.specs.Laws.Aging.{record-is}
 use borrow.Author.Needs.{needs}
-use Rattle.thinning.proofs.thin.Statement.{statement}
-use Rattle.thinning.proofs.thin.Tie as tie
+use Rattle.aging.proofs.thin.Statement.{statement}
+use Rattle.aging.proofs.thin.Tie as tie
 
 -- what acceptance gives
 head : (s : tie.Start) → Head (now (s .args .b))

@@ -3,10 +3,10 @@
 use mathlib.Core.Option.{Option, some, none}
 use Prim.Native.Nat.{ℕ}
 use Rattle.record.specs.Answers.{Answer, gives, turns-away}
-use Rattle.thinning.specs.declared.Aged.{Aged}
-use Rattle.thinning.specs.declared.Aged.the-variants.{Count, Refused}
-use Rattle.thinning.specs.declared.Applied.{Applied}
-use Rattle.thinning.specs.declared.Applied.the-variants.{NoTolerance, At}
+use Rattle.aging.specs.declared.Aged.{Aged}
+use Rattle.aging.specs.declared.Aged.the-variants.{Count, Refused}
+use Rattle.aging.specs.declared.Applied.{Applied}
+use Rattle.aging.specs.declared.Applied.the-variants.{NoTolerance, At}
 
 -- What an aging answered: the count, or the number of its refusal.
 abbrev pub counted : Aged → Answer ℕ

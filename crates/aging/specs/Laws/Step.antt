@@ -21,10 +21,10 @@ use Rattle.format.specs.Laws.Each.{length-each}
 use Rattle.format.specs.Laws.Layout.{length-record}
 use Rattle.format.specs.Laws.RoundTrip.{AreBytes, read-record, bytes-in-range, record-are-bytes}
 use Rattle.record.specs.Laws.Accepted.{GoodMark, mark-applied, mark-never-applied, GoodFixes, accepted-good, accept, places-good, good-places, times-good, good-times}
 use Rattle.thinning.specs.Thinning.{thinned}
-use Rattle.thinning.specs.Aging.{Call, by-tolerance, by-days, left-by, answered, age-answer, aged, aged-by-days, days-give, new-mark, thinned-record, Row, day-table, last-row, record-at, applies}
+use Rattle.aging.specs.Aging.{Call, by-tolerance, by-days, left-by, answered, age-answer, aged, aged-by-days, days-give, new-mark, thinned-record, Row, day-table, last-row, record-at, applies}
 use Rattle.thinning.specs.Laws.Trail.{kept-all, kept-rising, ends-stay, SameEnds, no-fixes, same-ends, no-more}
-use Rattle.thinning.specs.Laws.Aging.{age-none, age-10, age-refused, age-done, days-done}
+use Rattle.aging.specs.Laws.Aging.{age-none, age-10, age-refused, age-done, days-done}
 use Rattle.record.specs.Laws.First.{some-none}
 
 -- ---- the kept fixes are good: within the limits, in order, and no longer than before

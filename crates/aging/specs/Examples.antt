@@ -1,6 +1,6 @@
 -- THE AGINGS IN NUMBERS. Days and bytes, written out, and what document 01 says of them: the definitions and the code cannot be changed together without
 -- these rows. Each line is computed.
-use mathlib.Core.Path.{_≡_, refl}
+use mathlib.Core.Path.{refl}
 use mathlib.Core.List.{List, [], _∷_, _++_}
 use mathlib.Core.Option.{Option, some, none}
 use Prim.Native.Nat.{ℕ}
@@ -12,8 +12,8 @@ use Rattle.format.specs.Examples.{Computes, document-bytes}
 use Rattle.record.specs.Checks.{sentence, first, some-outside, some-early-after, some-early, of-ends}
 use Rattle.record.specs.Answers.{Answer, gives, turns-away}
 use Rattle.record.specs.Examples.{read-rows, on-refused}
 use Rattle.thinning.specs.Thinning.{sooner, furthest, every, but-last, thin-span, thin, thinning}
-use Rattle.thinning.specs.Aging.{new-mark, thinned-record, last-row, days-give, Call, by-tolerance, by-days, left-by, answered}
+use Rattle.aging.specs.Aging.{new-mark, thinned-record, last-row, days-give, Call, by-tolerance, by-days, left-by, answered}
 
 -- ---- the table: "from day 2, 10; from day 7, 25; from day 30, 100; from day 90, 400. Days 0 and 1 apply no tolerance"
 abbrev pub day-rows : List (ℕ × Option ℕ)

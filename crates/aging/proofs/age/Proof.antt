@@ -2,11 +2,11 @@ use mathlib.Core.Path.{_≡_, sym, _∙_, ap}
 use mathlib.Core.Option.{none}
 use denote.Ref.{now}
 use Rattle.record.specs.Answers.{refused, gives}
-use Rattle.thinning.specs.Aging.{age-refusal}
-use Rattle.thinning.specs.Laws.Aging.{age-accepted, age-refused, age-done}
+use Rattle.aging.specs.Aging.{age-refusal}
+use Rattle.aging.specs.Laws.Aging.{age-accepted, age-refused, age-done}
 use borrow.Author.Needs.{needs}
-use Rattle.thinning.proofs.age.Statement.{statement}
-use Rattle.thinning.proofs.age.Tie as tie
+use Rattle.aging.proofs.age.Statement.{statement}
+use Rattle.aging.proofs.age.Tie as tie
 
 passed : (c : tie.After-enum-told) → age-refusal (now (c .before .before .before .before .before .args .b)) (c .before .before .before .before .before .args .e .0) ≡ none
 passed c = sym (c .before .before .age-says .ensures) ∙ ap refused (c .enum-told .given .1)

@@ -1,6 +1,6 @@
-use Rattle.thinning.specs.Laws.Aging.{from-90, from-30, from-7, from-2, from-0}
-use Rattle.thinning.proofs.tolerance_for.Statement.{statement}
-use Rattle.thinning.proofs.tolerance_for.Tie as tie
+use Rattle.aging.specs.Laws.Aging.{from-90, from-30, from-7, from-2, from-0}
+use Rattle.aging.proofs.tolerance_for.Statement.{statement}
+use Rattle.aging.proofs.tolerance_for.Tie as tie
 
 returns : tie.Need-returns
 returns c = from-90 _ (c .if1 .taken)

@@ -1,35 +1,25 @@
 -- Aging: what the marks, the packing and the head make of a record, the checks in order, and the table's rows. The step of every call: Step.antt.
-use mathlib.Core.Path.{_≡_, refl, sym, _∙_, ap}
-use mathlib.Core.Bool.{Bool, true}
+use mathlib.Core.Path.{_≡_, refl, sym, _∙_}
+use mathlib.Core.Bool.{Bool}
 use mathlib.Core.List.{List, [], _∷_}
 use mathlib.Core.Option.{Option, some, none}
 use Prim.Native.Nat.{ℕ, _+_, _*_, _-_, _<_, _≤_}
 use native.Mathlib.Omega.{arith}
-use lib.ListN.{length, set}
-use Rattle.distance.specs.Fix.{Fix}
+use lib.ListN.{length}
 use lib.Seq.{sets}
 use borrow.Author.Tests.{lt-ltb, le-ltb, le-leb, lt-leb}
-use Rattle.distance.specs.Distance.{deviation, allowance}
 use Rattle.format.specs.Format.{trail, mark-field, count-field, fixes, fix-at, each, header-bytes}
 use Rattle.record.specs.Checks.{Check, high-tolerance, sentence, first, asked-of, reading, read-refusal, checks, IsAccepted}
 use Rattle.record.specs.Answers.{gives, turns-away}
 use Rattle.format.specs.Laws.Each.{length-each}
 use Rattle.record.specs.Laws.First.{stops, passes, none-first, some-first, none-front, reading-alone}
-use Rattle.thinning.specs.Thinning.{Thinned, thinning}
-use Rattle.thinning.specs.Marks.{kept-by, Cleared, Says, Marks}
-use Rattle.thinning.specs.Aging.{new-mark, thinned-record, with-tolerance, age-refusal, age-answer, aged, last-row, days-give, days-answer, aged-by-days, count-at, record-at}
-use Rattle.thinning.specs.Laws.Pack.{Packed, packed-record}
-use Rattle.thinning.specs.Laws.Marks.{marks-thinning}
-use Rattle.thinning.specs.Laws.KeptBy.{kept-by-length, ready}
+use Rattle.thinning.specs.Thinning.{thinning}
+use Rattle.thinning.specs.Marks.{kept-by, Says}
+use Rattle.aging.specs.Aging.{new-mark, thinned-record, with-tolerance, age-refusal, age-answer, aged, last-row, days-give, days-answer, aged-by-days, count-at, record-at}
+use Rattle.aging.specs.Laws.Pack.{Packed, packed-record}
+use Rattle.thinning.specs.Laws.KeptBy.{kept-by-length}
 
--- ---- the marks and the count are the definition's
-pub marks-say : (f : ℕ → Fix) (e n : ℕ) (k : List Bool) {k2 : List Bool} {c : ℕ} → Cleared k → 1 ≤ n → n ≤ length k → Marks deviation allowance f e 0 (n - 1) (set (set k 0 true) (n - 1) true) k2 c
-    → Says (thinning e (each f 0 n)) k2 (each f 0 n) c
-marks-say f e n k {k2} {c} clear one room m =
-    let t = marks-thinning f e n one (ready k n clear one room) m in
-    record { says-kept = ap (λ (t : Thinned Fix). t .kept) t; says-count = ap (λ (t : Thinned Fix). t .count) t }
-
--- ---- and so is the record that the code leaves
+-- ---- the record that the code leaves is the definition's
 pub record-is : (b : List ℕ) (e n : ℕ) {k : List Bool} {c w : ℕ} {p d : List ℕ} → n ≡ count-field b → 10 + 8 * n ≤ length b → Says (thinning e (each (fix-at trail b) 0 n)) k (each (fix-at trail b) 0 n) c
     → Packed b k n p w → d ≡ sets p 0 (header-bytes trail (new-mark (mark-field b) e) w) → (c ≡ (thinning e (fixes trail b)) .count) × (d ≡ thinned-record b e)
 unfolding thinned-record

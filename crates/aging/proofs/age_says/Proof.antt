@@ -1,10 +1,10 @@
 use mathlib.Core.Path.{sym, _∙_, ap}
 use denote.Ref.{now}
 use Rattle.record.specs.Answers.{refused}
-use Rattle.thinning.specs.Laws.Aging.{age-reader, age-10, age-none}
+use Rattle.aging.specs.Laws.Aging.{age-reader, age-10, age-none}
 use borrow.Author.Needs.{needs}
-use Rattle.thinning.proofs.age_says.Statement.{statement}
-use Rattle.thinning.proofs.age_says.Tie as tie
+use Rattle.aging.proofs.age_says.Statement.{statement}
+use Rattle.aging.proofs.age_says.Tie as tie
 
 check-requires : tie.Need-check-requires
 check-requires c κs = search needs

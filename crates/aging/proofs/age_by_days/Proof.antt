@@ -4,10 +4,10 @@ use denote.Ref.{now}
 use Rattle.format.specs.Format.{trail}
 use Rattle.record.specs.Checks.{read-refusal}
 use Rattle.record.specs.Answers.{refused, gives}
-use Rattle.thinning.specs.Laws.Aging.{days-refused, days-done}
+use Rattle.aging.specs.Laws.Aging.{days-refused, days-done}
 use borrow.Author.Needs.{needs}
-use Rattle.thinning.proofs.age_by_days.Statement.{statement}
-use Rattle.thinning.proofs.age_by_days.Tie as tie
+use Rattle.aging.proofs.age_by_days.Statement.{statement}
+use Rattle.aging.proofs.age_by_days.Tie as tie
 
 passed : (c : tie.After-enum-told) → read-refusal trail (now (c .before .before .before .before .before .args .b)) ≡ none
 passed c = sym (c .before .before .check .ensures) ∙ ap refused (c .enum-told .given .1)

@@ -7,9 +7,9 @@ use lib.Seq.{length-sets}
 use borrow.Author.Needs.{needs}
 use Rattle.distance.specs.Fix.{fixOf}
 use Rattle.format.specs.Format.{trail, fix-bytes}
-use Rattle.thinning.specs.Laws.Pack.{Packed, packed-none, packed-skip, packed-more}
-use Rattle.thinning.proofs.pack.Statement.{statement}
-use Rattle.thinning.proofs.pack.Tie as tie
+use Rattle.aging.specs.Laws.Pack.{Packed, packed-none, packed-skip, packed-more}
+use Rattle.aging.proofs.pack.Statement.{statement}
+use Rattle.aging.proofs.pack.Tie as tie
 
 abbrev Inv-loop : tie.InvT-loop
 Inv-loop b₀ keep n w₀ i₀ b w i = (i ≤ n) × (length b ≡ length b₀) × Packed b₀ keep i b w

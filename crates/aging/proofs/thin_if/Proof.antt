@@ -2,11 +2,11 @@ use mathlib.Core.Path.{sym, _∙_, ap}
 use mathlib.Core.Option.{Option}
 use Prim.Native.Nat.{ℕ}
 use denote.Ref.{now}
-use Rattle.thinning.specs.Aging.{count-at, record-at}
-use Rattle.thinning.specs.Answers.{applied}
+use Rattle.aging.specs.Aging.{count-at, record-at}
+use Rattle.aging.specs.Answers.{applied}
 use borrow.Author.Needs.{needs}
-use Rattle.thinning.proofs.thin_if.Statement.{statement}
-use Rattle.thinning.proofs.thin_if.Tie as tie
+use Rattle.aging.proofs.thin_if.Statement.{statement}
+use Rattle.aging.proofs.thin_if.Tie as tie
 
 enum-told : tie.Need-enum-told
 enum-told c = search needs

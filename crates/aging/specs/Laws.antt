@@ -1,0 +1,4 @@
+-- What is proved of the definitions, each law once.
+pub mod Pack
+pub mod Aging
+pub mod Step
