@@ -156,9 +156,9 @@ pub extern "C" fn trails_read_all(b: &[u8], t: &mut [u32], x: &mut [i16], y: &mu
 {
     let a = record::read_all(b, t, x, y);
     match a {
-        record::AllRead::Count(n) => Answer {
+        record::AllRead::Count(fixes) => Answer {
             refusal: 0,
-            value: n,
+            value: fixes,
         },
         record::AllRead::Refused(k) => Answer {
             refusal: wide(k),
@@ -174,9 +174,9 @@ pub extern "C" fn trails_write(t: &[u32], x: &[i16], y: &[i16], out: &mut [u8]) 
 {
     let w = writing::write(t, x, y, out);
     match w {
-        writing::Written::Length(n) => Answer {
+        writing::Written::Length(bytes) => Answer {
             refusal: 0,
-            value: n,
+            value: bytes,
         },
         writing::Written::Refused(k) => Answer {
             refusal: wide(k),

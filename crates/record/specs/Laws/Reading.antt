@@ -80,7 +80,7 @@ begins-tells b = go (read-refusal trail b)
     go (some k) = refl
 
 -- a reader at one of the first n fixes, where the count and the bytes have them, yields it and goes to the next
-module _ (b : List ℕ) (k n : ℕ) (less : k < n) (counted : n ≤ count-field b) (whole : 10 + 8 * n ≤ length b) where
+module _ (b : List ℕ) (k n : ℕ) (less : k < n) (in-count : n ≤ count-field b) (whole : 10 + 8 * n ≤ length b) where
   stands-there : stands trail b k ≡ true
   stands-there = stands-if b k (omega arith) ∙ le-leb (18 + 8 * k) (length b) (omega arith)
 

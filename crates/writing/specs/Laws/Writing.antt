@@ -49,18 +49,18 @@ module _ (l : List Fix) (output : ℕ) where
   writes-3-many h = stops (says l output) bad-count _ (many-fixes h)
 
   module _ (h : length l ≡ 0 → ⊥) (g : length l ≤ 4096) where
-    counted : refusal trail writing (asked-to-write l output) ≡ first (says l output) (fix-checks ++ short-output ∷ [])
-    counted = passes (says l output) bad-count (fix-checks ++ short-output ∷ []) (good-count h g)
+    count-passed : refusal trail writing (asked-to-write l output) ≡ first (says l output) (fix-checks ++ short-output ∷ [])
+    count-passed = passes (says l output) bad-count (fix-checks ++ short-output ∷ []) (good-count h g)
 
     pub writes-fix : (k : ℕ) → first (says l output) fix-checks ≡ some k → refusal trail writing (asked-to-write l output) ≡ some k
-    writes-fix k e = counted ∙ some-first (says l output) fix-checks (short-output ∷ []) k e
+    writes-fix k e = count-passed ∙ some-first (says l output) fix-checks (short-output ∷ []) k e
 
     pub writes-15 : first (says l output) fix-checks ≡ none → output < 10 + 8 * length l → refusal trail writing (asked-to-write l output) ≡ some 15
-    writes-15 e s = counted ∙ none-first (says l output) fix-checks (short-output ∷ []) e ∙ stops (says l output) short-output [] (short s)
+    writes-15 e s = count-passed ∙ none-first (says l output) fix-checks (short-output ∷ []) e ∙ stops (says l output) short-output [] (short s)
 
     pub writes-none : first (says l output) fix-checks ≡ none → 10 + 8 * length l ≤ output → refusal trail writing (asked-to-write l output) ≡ none
     unfolding first
-    writes-none e s = counted ∙ none-first (says l output) fix-checks (short-output ∷ []) e ∙ passes (says l output) short-output [] (not-short s)
+    writes-none e s = count-passed ∙ none-first (says l output) fix-checks (short-output ∷ []) e ∙ passes (says l output) short-output [] (not-short s)
 
 -- no fixes are turned away by none of checks 7 to 9
 pub none-turned-away : (l : List Fix) (output : ℕ) → length l ≡ 0 → none ≡ first (says l output) fix-checks
