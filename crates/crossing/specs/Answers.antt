@@ -6,7 +6,7 @@ use Rattle.legs.specs.declared.Fraction.{Fraction}
 use Rattle.crossing.specs.declared.Crossed.{Crossed}
 use Rattle.crossing.specs.declared.Crossed.the-variants as Cross
 use Rattle.crossing.specs.declared.Edges.{Edges}
-use Rattle.distance.specs.Box.{Box}
+use Rattle.distance.specs.Box.{Box, box-with}
 
 -- Yes with its time, no, or the refusal.
 abbrev pub crossed : Crossed → Answer (Option Fraction)
@@ -15,4 +15,4 @@ crossed Cross.Denied = gives none
 crossed (Cross.Refused k) = turns-away k
 
 abbrev pub boxOf : Edges → Box
-boxOf e = record { x-low = e .left .0; x-high = e .right .0; y-low = e .bottom .0; y-high = e .top .0 }
+boxOf e = box-with (e .left .0) (e .right .0) (e .bottom .0) (e .top .0)

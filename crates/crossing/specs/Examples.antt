@@ -6,7 +6,7 @@ use mathlib.Core.Option.{Option, some, none}
 use Prim.Native.Nat.{ℕ}
 use lib.IntN.{ℤ, pos, negℤ}
 use Rattle.distance.specs.Fix.{last-of}
-use Rattle.distance.specs.Box.{Box}
+use Rattle.distance.specs.Box.{Box, box-with}
 use Rattle.format.specs.Bytes.{number-at, signed}
 use Rattle.format.specs.Format.{trail, fix-at, each}
 use Rattle.format.specs.Examples.{Computes}
@@ -14,22 +14,19 @@ use Rattle.record.specs.Checks.{sentence, first, some-outside, some-early-after
 use Rattle.record.specs.Answers.{Answer, gives, turns-away}
 use Rattle.record.specs.Examples.{read-rows, on-refused}
 use Rattle.legs.specs.declared.Fraction.{Fraction}
-use Rattle.legs.specs.Legs.{later-of, earlier-of, first-of, axis-times, leg-times, leg-first}
+use Rattle.legs.specs.Legs.{fraction, later-of, earlier-of, first-of, axis-times, leg-times, leg-first}
 use Rattle.crossing.specs.Crossing.{first-from, first-crossing, cross-answer}
 
 -- The trail (1000,0,0) (1010,100,0).
-abbrev pub one-leg : List ℕ
-one-leg = 26 ∷ 0 ∷ 0 ∷ 0 ∷ 1 ∷ 0 ∷ 255 ∷ 255 ∷ 2 ∷ 0 ∷ 232 ∷ 3 ∷ 0 ∷ 0 ∷ 0 ∷ 0 ∷ 0 ∷ 0 ∷ 242 ∷ 3 ∷ 0 ∷ 0 ∷ 100 ∷ 0 ∷ 0 ∷ 0 ∷ []
-
-abbrev pub box : (x-low x-high y-low y-high : ℤ) → Box
-box a b c d = record { x-low = a; x-high = b; y-low = c; y-high = d }
+abbrev pub cross-trail : List ℕ
+cross-trail = 26 ∷ 0 ∷ 0 ∷ 0 ∷ 1 ∷ 0 ∷ 255 ∷ 255 ∷ 2 ∷ 0 ∷ 232 ∷ 3 ∷ 0 ∷ 0 ∷ 0 ∷ 0 ∷ 0 ∷ 0 ∷ 242 ∷ 3 ∷ 0 ∷ 0 ∷ 100 ∷ 0 ∷ 0 ∷ 0 ∷ []
 
 -- x 33..40, y −5..5; all of the hall; and boxes that are one centimetre too far, or turned round
 abbrev pub asked-box : Box
-asked-box = box (pos 33) (pos 40) (negℤ (pos 5)) (pos 5)
+asked-box = box-with (pos 33) (pos 40) (negℤ (pos 5)) (pos 5)
 
 abbrev pub yes-at : (n d : ℕ) → Answer (Option Fraction)
-yes-at n d = gives (some (record { num = n; den = d }))
+yes-at n d = gives (some (fraction n d))
 
 -- A window, from a second to a second, and a box; and what is answered of that trail.
 abbrev pub cross-rows : List ((ℕ × ℕ × Box) × Answer (Option Fraction))
@@ -43,23 +40,23 @@ cross-rows =
     ∷ ((999, 1010, asked-box), turns-away 13)
     ∷ ((1000, 1011, asked-box), turns-away 13)
     -- 14. "A box edge is outside −16,000 to 16,000, or a low edge is above its high edge.": each edge at the limit, and one centimetre further
-    ∷ ((1000, 1010, box (negℤ (pos 16000)) (pos 16000) (negℤ (pos 16000)) (pos 16000)), yes-at 0 1)
-    ∷ ((1000, 1010, box (negℤ (pos 16001)) (pos 40) (negℤ (pos 5)) (pos 5)), turns-away 14)
-    ∷ ((1000, 1010, box (pos 33) (pos 16001) (negℤ (pos 5)) (pos 5)), turns-away 14)
-    ∷ ((1000, 1010, box (pos 33) (pos 40) (negℤ (pos 16001)) (pos 5)), turns-away 14)
-    ∷ ((1000, 1010, box (pos 33) (pos 40) (negℤ (pos 5)) (pos 16001)), turns-away 14)
-    ∷ ((1000, 1010, box (pos 33) (pos 33) (pos 0) (pos 0)), yes-at 330 100)
-    ∷ ((1000, 1010, box (pos 34) (pos 33) (pos 0) (pos 0)), turns-away 14)
-    ∷ ((1000, 1010, box (pos 33) (pos 33) (pos 1) (pos 0)), turns-away 14)
+    ∷ ((1000, 1010, box-with (negℤ (pos 16000)) (pos 16000) (negℤ (pos 16000)) (pos 16000)), yes-at 0 1)
+    ∷ ((1000, 1010, box-with (negℤ (pos 16001)) (pos 40) (negℤ (pos 5)) (pos 5)), turns-away 14)
+    ∷ ((1000, 1010, box-with (pos 33) (pos 16001) (negℤ (pos 5)) (pos 5)), turns-away 14)
+    ∷ ((1000, 1010, box-with (pos 33) (pos 40) (negℤ (pos 16001)) (pos 5)), turns-away 14)
+    ∷ ((1000, 1010, box-with (pos 33) (pos 40) (negℤ (pos 5)) (pos 16001)), turns-away 14)
+    ∷ ((1000, 1010, box-with (pos 33) (pos 33) (pos 0) (pos 0)), yes-at 330 100)
+    ∷ ((1000, 1010, box-with (pos 34) (pos 33) (pos 0) (pos 0)), turns-away 14)
+    ∷ ((1000, 1010, box-with (pos 33) (pos 33) (pos 1) (pos 0)), turns-away 14)
     -- 13 comes before 14
-    ∷ ((1005, 1004, box (pos 34) (pos 33) (pos 0) (pos 0)), turns-away 13)
+    ∷ ((1005, 1004, box-with (pos 34) (pos 33) (pos 0) (pos 0)), turns-away 13)
     ∷ []
 
-pub crossings-computed : Computes (λ (q : ℕ × ℕ × Box). cross-answer trail one-leg (q .0) (q .1) (q .2)) cross-rows
+pub crossings-computed : Computes (λ (q : ℕ × ℕ × Box). cross-answer trail cross-trail (q .0) (q .1) (q .2)) cross-rows
 unfolding first sentence some-outside some-early-after some-early last-of of-ends fix-at each number-at signed first-crossing first-from leg-first leg-times axis-times first-of later-of earlier-of
 crossings-computed = refl
 
 -- What the reader refuses the crossing refuses, 1 to 9, and before 13.
-pub refusals-computed : Computes (λ (b : List ℕ). cross-answer trail b 1 0 asked-box) (on-refused (λ b k. (b, turns-away k)) read-rows)
+pub cross-refusals : Computes (λ (b : List ℕ). cross-answer trail b 1 0 asked-box) (on-refused (λ b k. (b, turns-away k)) read-rows)
 unfolding first sentence some-outside some-early-after some-early last-of of-ends fix-at each number-at signed
-refusals-computed = refl
+cross-refusals = refl

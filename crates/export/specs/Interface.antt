@@ -3,9 +3,8 @@
 use mathlib.Core.List.{List}
 use mathlib.Core.Option.{Option, some, none}
 use Prim.Native.Nat.{ℕ}
-use lib.IntN.{ℤ, pos, natAbs}
+use lib.IntN.{pos, natAbs}
 use Rattle.distance.specs.Fix.{Fix}
-use Rattle.distance.specs.Box.{Box}
 use Rattle.format.specs.Format.{trail, count-field, mark-field}
 use Rattle.record.specs.Checks.{read-refusal}
 use Rattle.record.specs.Answers.{Answer, gives, turns-away, answer}
@@ -57,6 +56,3 @@ abbrev pub crossing-numbers : Answer (Option Fraction) → Crossing
 crossing-numbers (gives (some f)) = record { refusal = 0; crosses = 1; numerator = f .num; denominator = f .den }
 crossing-numbers (gives none) = record { refusal = 0; crosses = 0; numerator = 0; denominator = 0 }
 crossing-numbers (turns-away k) = record { refusal = k; crosses = 0; numerator = 0; denominator = 0 }
-
-abbrev pub box-of : (left right bottom top : ℤ) → Box
-box-of left right bottom top = record { x-low = left; x-high = right; y-low = bottom; y-high = top }

@@ -17,7 +17,7 @@ use Rattle.writing.specs.Writing.{write-refusal, write-answer}
 use Rattle.record.specs.Laws.First.{some-none, stops, first-exactly}
 use Rattle.record.specs.Laws.Head.{says, few}
 use Rattle.format.specs.Laws.Layout.{of-head-field}
-use Rattle.distance.specs.Box.{Box}
+use Rattle.distance.specs.Box.{Box, box-with}
 use Rattle.record.specs.Reading.{yields, read-answer}
 use Rattle.aging.specs.Aging.{Call, age-refusal, age-answer, days-refusal, days-answer}
 use Rattle.questions.specs.Agings.{run-answer, after-answer}
@@ -30,7 +30,7 @@ use Rattle.moment.specs.Answers.{placed}
 use Rattle.export.specs.declared.Head.{Head}
 use Rattle.export.specs.declared.Step.{Step}
 use Rattle.export.specs.declared.Spot.{Spot as Numbers}
-use Rattle.export.specs.Interface.{checked-numbers, head-numbers, yield-answer, step-numbers, value-numbers, run-numbers, spot-numbers, crossing-numbers, box-of}
+use Rattle.export.specs.Interface.{checked-numbers, head-numbers, yield-answer, step-numbers, value-numbers, run-numbers, spot-numbers, crossing-numbers}
 
 -- ---- 0 is none
 numbered : (c : Check) → 1 ≤ number c
@@ -138,5 +138,5 @@ spot-at s x y p q a ex ey ep eq h = rw (ex, ey, ep, eq, h) refl
 pub same-asked : {A : Type 0} (f : ℕ → ℕ → Box → A) {s t e g : ℕ} {p q : Box} → s ≡ t → e ≡ g → p ≡ q → f s e p ≡ f t g q
 same-asked f h k m = rw (h, k, m) refl
 
-pub same-box : {x y z w a b c d : ℤ} → x ≡ a → y ≡ b → z ≡ c → w ≡ d → box-of x y z w ≡ box-of a b c d
+pub same-box : {x y z w a b c d : ℤ} → x ≡ a → y ≡ b → z ≡ c → w ≡ d → box-with x y z w ≡ box-with a b c d
 same-box h k m n = rw (h, k, m, n) refl

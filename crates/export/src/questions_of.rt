@@ -10,6 +10,7 @@ use distance::Seconds;
 use moment::Placed;
 use questions::Ran;
 ghost use mathlib.Core.Path.{_≡_};
+ghost use Rattle.distance.specs.Box.{box-with};
 ghost use Rattle.format.specs.Format.{trail, never, mark-field};
 ghost use Rattle.record.specs.Checks.{IsAccepted};
 ghost use Rattle.moment.specs.Answers.{placed};
@@ -19,7 +20,7 @@ ghost use Rattle.crossing.specs.Crossing.{cross-answer, CrossMeans};
 ghost use Rattle.questions.specs.Agings.{run, run-answer, after-answer, left-after, calls-of};
 ghost use Rattle.questions.specs.Answers.{ran};
 ghost use Rattle.questions.specs.Claim.{Claim};
-ghost use Rattle.export.specs.Interface.{spot-numbers, crossing-numbers, run-numbers, box-of};
+ghost use Rattle.export.specs.Interface.{spot-numbers, crossing-numbers, run-numbers};
 
 fn spot_of(p: Placed) -> Spot
     ensures { λ r. ⌜ r ≡ spot-numbers (placed p) ⌝ }
@@ -82,7 +83,7 @@ fn window(start: u32, end: u32) -> Window
 }
 
 fn edges(left: i32, right: i32, bottom: i32, top: i32) -> Edges
-    ensures { λ r. ⌜ boxOf r ≡ box-of left right bottom top ⌝ }
+    ensures { λ r. ⌜ boxOf r ≡ box-with left right bottom top ⌝ }
 {
     Edges {
         left: Edge(left),
@@ -112,7 +113,7 @@ pub extern "C" fn trails_crosses(
     bottom: i32,
     top: i32,
 ) -> Crossing
-    ensures { λ r. ⌜ (r ≡ crossing-numbers (cross-answer trail (now (b .entry)) start end (box-of left right bottom top))) × CrossMeans trail (now (b .entry)) start end (box-of left right bottom top) (cross-answer trail (now (b .entry)) start end (box-of left right bottom top)) ⌝ }
+    ensures { λ r. ⌜ (r ≡ crossing-numbers (cross-answer trail (now (b .entry)) start end (box-with left right bottom top))) × CrossMeans trail (now (b .entry)) start end (box-with left right bottom top) (cross-answer trail (now (b .entry)) start end (box-with left right bottom top)) ⌝ }
 {
     let c = crossing::crosses(b, window(start, end), edges(left, right, bottom, top));
     crossing_of(c)
@@ -156,7 +157,7 @@ pub extern "C" fn trails_crosses_after(
     bottom: i32,
     top: i32,
 ) -> Crossing
-    ensures { λ r. ⌜ (r ≡ crossing-numbers (after-answer (now (b .entry)) (calls-of (now (calls .entry))) start end (box-of left right bottom top))) × (now (b .exit) ≡ left-after (now (b .entry)) (calls-of (now (calls .entry))) start end (box-of left right bottom top)) × (IsAccepted trail (now (b .entry)) → mark-field (now (b .entry)) ≡ never → Claim (now (b .entry)) (calls-of (now (calls .entry)))) ⌝ }
+    ensures { λ r. ⌜ (r ≡ crossing-numbers (after-answer (now (b .entry)) (calls-of (now (calls .entry))) start end (box-with left right bottom top))) × (now (b .exit) ≡ left-after (now (b .entry)) (calls-of (now (calls .entry))) start end (box-with left right bottom top)) × (IsAccepted trail (now (b .entry)) → mark-field (now (b .entry)) ≡ never → Claim (now (b .entry)) (calls-of (now (calls .entry)))) ⌝ }
 {
     let c = questions::crosses_after(
         b,

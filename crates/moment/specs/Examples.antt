@@ -16,8 +16,8 @@ use Rattle.moment.specs.Rounding.{floored, rounded}
 use Rattle.moment.specs.Moment.{Standing, on-leg, moment-from, at-moment, place-answer}
 
 -- The trail (1000,0,0) (1010,5,−5).
-abbrev pub one-leg : List ℕ
-one-leg = 26 ∷ 0 ∷ 0 ∷ 0 ∷ 1 ∷ 0 ∷ 255 ∷ 255 ∷ 2 ∷ 0 ∷ 232 ∷ 3 ∷ 0 ∷ 0 ∷ 0 ∷ 0 ∷ 0 ∷ 0 ∷ 242 ∷ 3 ∷ 0 ∷ 0 ∷ 5 ∷ 0 ∷ 251 ∷ 255 ∷ []
+abbrev pub place-trail : List ℕ
+place-trail = 26 ∷ 0 ∷ 0 ∷ 0 ∷ 1 ∷ 0 ∷ 255 ∷ 255 ∷ 2 ∷ 0 ∷ 232 ∷ 3 ∷ 0 ∷ 0 ∷ 0 ∷ 0 ∷ 0 ∷ 0 ∷ 242 ∷ 3 ∷ 0 ∷ 0 ∷ 5 ∷ 0 ∷ 251 ∷ 255 ∷ []
 
 -- x and −x over 10,000, and the rounded place.
 abbrev pub opposite : (x rounded-x : ℕ) (rounded-y : ℤ) → Answer Standing
@@ -45,11 +45,11 @@ moment-rows =
     ∷ ((1001, 234), opposite 6170 1 (negℤ (pos 1)))
     ∷ []
 
-pub moments-computed : Computes (λ (p : ℕ × ℕ). place-answer trail one-leg (p .0) (p .1)) moment-rows
+pub moments-computed : Computes (λ (p : ℕ × ℕ). place-answer trail place-trail (p .0) (p .1)) moment-rows
 unfolding first sentence some-outside some-early-after some-early last-of of-ends fix-at each number-at signed at-moment moment-from on-leg own rounded floored
 moments-computed = refl
 
 -- What the reader refuses the place question refuses, 1 to 9, and before 11.
-pub refusals-computed : Computes (λ (b : List ℕ). place-answer trail b 0 1000) (on-refused (λ b k. (b, turns-away k)) read-rows)
+pub place-refusals : Computes (λ (b : List ℕ). place-answer trail b 0 1000) (on-refused (λ b k. (b, turns-away k)) read-rows)
 unfolding first sentence some-outside some-early-after some-early last-of of-ends fix-at each number-at signed
-refusals-computed = refl
+place-refusals = refl

@@ -9,7 +9,7 @@ use lib.Dec.{ltb}
 use lib.IntN.{pos}
 use borrow.Author.Tests.{ltb-true}
 use Rattle.distance.specs.Distance.{deviation, allowance}
-use Rattle.distance.specs.Box.{Box}
+use Rattle.distance.specs.Box.{Box, box-with}
 use Rattle.distance.specs.Laws.All.{all-none, all-more}
 use Rattle.format.specs.Bytes.{number-at, bytes-of, signed, unsigned}
 use Rattle.format.specs.Format.{trail, never, mark-field, fix-at, each, fix-bytes, all-bytes, header-bytes, record-bytes}
@@ -132,7 +132,7 @@ examples = refl
 
 -- ---- the crossing on it: the original reaches x = 20, what is left at 25 does not
 abbrev pub shelf : Box
-shelf = record { x-low = pos 10; x-high = pos 20; y-low = pos 0; y-high = pos 0 }
+shelf = box-with (pos 10) (pos 20) (pos 0) (pos 0)
 
 abbrev pub answers : List (Answer (Option Fraction))
 answers = cross-answer trail lent 0 30 shelf ∷ cross-answer trail left-at-25 0 30 shelf ∷ cross-answer trail lent 0 31 shelf ∷ []

@@ -11,7 +11,7 @@ use lib.ListN.{length, take, drop}
 use lib.IntN.{ℤ, pos, negℤ}
 use Rattle.distance.specs.Fix.{Fix, last-of}
 use Rattle.distance.specs.Distance.{deviation, allowance}
-use Rattle.distance.specs.Box.{Box}
+use Rattle.distance.specs.Box.{Box, box-with}
 use Rattle.distance.specs.Place.{own}
 use Rattle.format.specs.Bytes.{number-at, bytes-of, signed, unsigned}
 use Rattle.format.specs.Format.{trail, never, mark-field, record-length, fixes, fix-at, each, fix-bytes, all-bytes, header-bytes, record-bytes}
@@ -23,8 +23,9 @@ use Rattle.aging.specs.Aging.{by-tolerance, left-by, answered, new-mark, thinne
 use Rattle.legs.specs.declared.Fraction.{Fraction}
 use Rattle.moment.specs.Rounding.{floored, rounded}
 use Rattle.moment.specs.Moment.{Standing, on-leg, moment-from, at-moment, place-answer}
-use Rattle.legs.specs.Legs.{fraction, later-of, earlier-of, first-of, axis-times, leg-times, leg-first}
+use Rattle.legs.specs.Legs.{later-of, earlier-of, first-of, axis-times, leg-times, leg-first}
 use Rattle.crossing.specs.Crossing.{first-from, first-crossing, cross-answer}
+use Rattle.crossing.specs.Examples.{yes-at}
 
 -- ---- WHAT A ROW ASKS of a trail
 pub data Question : Type 0 where
@@ -153,9 +154,6 @@ keeps ks c m = gives (record { positions = ks; count-given = c; mark-given = m }
 abbrev pub stands-at : (x y d rounded-x rounded-y : ℤ) → Answer Standing
 stands-at x y d rx ry = gives (record { exact = record { x = x; y = y; d = d }; rounded-x = rx; rounded-y = ry })
 
-abbrev pub yes-at : (n d : ℕ) → Answer (Option Fraction)
-yes-at n d = gives (some (fraction n d))
-
 abbrev pub no-crossing : Answer (Option Fraction)
 no-crossing = gives none
 
@@ -179,7 +177,7 @@ abbrev pub trail-l : List Fix
 trail-l = fix 0 0 0 ∷ fix 10 100 0 ∷ []
 
 abbrev pub box-l : Box
-box-l = record { x-low = pos 33; x-high = pos 40; y-low = minus 5; y-high = pos 5 }
+box-l = box-with (pos 33) (pos 40) (minus 5) (pos 5)
 
 abbrev pub span : ℕ → List Fix
 span s = fix 0 0 0 ∷ fix s 0 0 ∷ []

@@ -17,28 +17,28 @@ use Rattle.record.specs.Laws.Accepted.{accepted-good, good-fixes}
 use Rattle.record.specs.Laws.First.{some-none}
 use Rattle.writing.specs.Writing.{asked-to-write, lent-fixes, write-refusal, write-answer, written, ReadsBack}
 use Rattle.writing.specs.Laws.Writing.{writes-none}
-use Rattle.rewrite.specs.Anew.{after, anew-answer, anew}
+use Rattle.rewrite.specs.Anew.{refused-first, anew-answer, anew}
 
--- ---- the list of a record's fixes, as it is filled
+-- ---- the list of a record's fixes, as it grows
 lent-more : (l : List CodeFix) (k : ℕ) (f : CodeFix) → k < length l → lent-fixes (take (suc k) (set l k f)) ≡ lent-fixes (take k l) ++ fixOf f ∷ []
 lent-more [] k f h = absurd (omega arith)
 lent-more (g ∷ l) zero f h = refl
 lent-more (g ∷ l) (suc k) f h = ap (λ (m : List Fix). fixOf g ∷ m) (lent-more l k f (omega arith))
 
 -- its first k entries are the first k fixes of the bytes
-pub record Filled (b : List ℕ) (n k : ℕ) (l : List CodeFix) : Type 0 where
+pub record Listed (b : List ℕ) (n k : ℕ) (l : List CodeFix) : Type 0 where
   pub few : n ≤ 4096
   pub whole : 10 + 8 * n ≤ length b
   pub within : k ≤ n
   pub room : length l ≡ 4096
   pub holds : lent-fixes (take k l) ≡ each (fix-at trail b) 0 k
 
-pub filled-none : (b : List ℕ) (n : ℕ) (l : List CodeFix) → n ≤ 4096 → 10 + 8 * n ≤ length b → length l ≡ 4096 → Filled b n 0 l
+pub listed-none : (b : List ℕ) (n : ℕ) (l : List CodeFix) → n ≤ 4096 → 10 + 8 * n ≤ length b → length l ≡ 4096 → Listed b n 0 l
 unfolding each
-filled-none b n l few whole room = record { few = few; whole = whole; within = omega arith; room = room; holds = refl }
+listed-none b n l few whole room = record { few = few; whole = whole; within = omega arith; room = room; holds = refl }
 
-pub filled-more : (b : List ℕ) (n k : ℕ) (l : List CodeFix) (f : CodeFix) → Filled b n k l → k < n → fixOf f ≡ fix-at trail b k → Filled b n (k + 1) (set l k f)
-filled-more b n k l f h less e = record {
+pub listed-more : (b : List ℕ) (n k : ℕ) (l : List CodeFix) (f : CodeFix) → Listed b n k l → k < n → fixOf f ≡ fix-at trail b k → Listed b n (k + 1) (set l k f)
+listed-more b n k l f h less e = record {
   few = h .few;
   whole = h .whole;
   within = omega (arith, less);
@@ -47,8 +47,8 @@ filled-more b n k l f h less e = record {
 }
 
 -- the whole of it
-pub filled : (b : List ℕ) (n k : ℕ) (l : List CodeFix) → Filled b n k l → n ≤ k → lent-fixes (take n l) ≡ each (fix-at trail b) 0 n
-filled b n k l h end = let e : n ≡ k = omega (arith, h .within, end) in rw e (h .holds)
+pub listed-all : (b : List ℕ) (n k : ℕ) (l : List CodeFix) → Listed b n k l → n ≤ k → lent-fixes (take n l) ≡ each (fix-at trail b) 0 n
+listed-all b n k l h end = let e : n ≡ k = omega (arith, h .within, end) in rw e (h .holds)
 
 -- ---- what the writer says of the fixes, said of the record
 -- an accepted record's fixes pass the writer's checks wherever the output has room for them
@@ -80,7 +80,7 @@ answer-within b out l n e same = go (read-refusal trail b) (write-refusal trail 
     gives-turns : {k : ℕ} → gives n ≡ turns-away k → ⊥
     gives-turns f = let z : _≡_ {A = ℕ} 0 1 = cc in omega arith
 
-    go : (r w : Option ℕ) → gives n ≡ after r (answer w (10 + 8 * length (fixes trail b))) → l ≡ unless r out (unless w out (record-bytes trail never (fixes trail b) ++ drop (10 + 8 * length (fixes trail b)) out)) → n ≤ length l
+    go : (r w : Option ℕ) → gives n ≡ refused-first r (answer w (10 + 8 * length (fixes trail b))) → l ≡ unless r out (unless w out (record-bytes trail never (fixes trail b) ++ drop (10 + 8 * length (fixes trail b)) out)) → n ≤ length l
     go (some k) w f h = absurd (gives-turns f)
     go none (some k) f h = absurd (gives-turns f)
     go none none f h =

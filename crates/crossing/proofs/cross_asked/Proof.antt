@@ -13,7 +13,7 @@ use Rattle.record.specs.Laws.Trail.{span-is}
 use Rattle.legs.specs.declared.Fraction.{Fraction}
 use Rattle.crossing.specs.Answers.{boxOf}
 use Rattle.crossing.specs.Laws.Crossing.{GoodWindow}
-use Rattle.crossing.specs.Laws.Checking.{window-good, box-good, Passed, cross-passed, cross-gives}
+use Rattle.crossing.specs.Laws.Checking.{window-good, box-good, Askable, cross-passed, cross-gives}
 use borrow.Author.Needs.{needs}
 use Rattle.crossing.proofs.cross_asked.Statement.{statement}
 use Rattle.crossing.proofs.cross_asked.Tie as tie
@@ -21,7 +21,7 @@ use Rattle.crossing.proofs.cross_asked.Tie as tie
 abbrev bytes : tie.Start → List ℕ
 bytes s = now (s .args .b)
 
-passed : (s : tie.Start) → Passed (bytes s) (s .args .w .start .0) (s .args .w .end .0) (boxOf (s .args .e))
+passed : (s : tie.Start) → Askable (bytes s) (s .args .w .start .0) (s .args .w .end .0) (boxOf (s .args .e))
 passed s = cross-passed (bytes s) _ _ (boxOf (s .args .e)) (s .pre)
 
 head : (s : tie.Start) → Head (bytes s)

@@ -101,12 +101,12 @@ module _ (b : List ℕ) (s e : ℕ) (box : Box) where
         rw (fixes-from b some-fix) (crossing-means _ _ box s e (accepted-checked b accepted) (box-good box k) (record { from = w .from; order = w .order; to = omega (arith, w .to, l) }))
 
 -- ---- what a question that none of its checks turns away has: an accepted record, a window of its times, and a box within the limits
-pub record Passed (b : List ℕ) (s e : ℕ) (box : Box) : Type 0 where
+pub record Askable (b : List ℕ) (s e : ℕ) (box : Box) : Type 0 where
   pub is-accepted : IsAccepted trail b
   pub window-passed : window-outside s e ((fix-at trail b 0) .t) ((fix-at trail b (count-field b - 1)) .t) ≡ false
   pub box-passed : edges-outside box ≡ false
 
-pub cross-passed : (b : List ℕ) (s e : ℕ) (box : Box) → cross-refusal trail b s e box ≡ none → Passed b s e box
+pub cross-passed : (b : List ℕ) (s e : ℕ) (box : Box) → cross-refusal trail b s e box ≡ none → Askable b s e box
 cross-passed b s e box n =
     let front = none-front (asks b s e box) (head-checks ++ fix-checks) (own-checks b s e box) n in
     let accepted : IsAccepted trail b = record { accepted = sym (reading-alone trail b (asked-crossing s e box)) ∙ front } in

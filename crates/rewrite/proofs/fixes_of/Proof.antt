@@ -3,18 +3,18 @@ use native.Mathlib.Omega.{arith}
 use lib.ListN.{length-replicate}
 use borrow.Author.Needs.{needs}
 use Rattle.writing.specs.Laws.Passing.{no-fix}
-use Rattle.rewrite.specs.Laws.{Filled, filled-none, filled-more, filled}
+use Rattle.rewrite.specs.Laws.{Listed, listed-none, listed-more, listed-all}
 use Rattle.rewrite.proofs.fixes_of.Statement.{statement}
 use Rattle.rewrite.proofs.fixes_of.Tie as tie
 
 abbrev Inv-loop : tie.InvT-loop
-Inv-loop b n list₀ k₀ list k = Filled b n k list
+Inv-loop b n list₀ k₀ list k = Listed b n k list
 
 abbrev μ-loop : tie.MeasureT-loop
 μ-loop b n list₀ k₀ list k = n - k
 
 loop-holds : tie.Need-loop-holds Inv-loop μ-loop
-loop-holds c = filled-none _ _ _ (omega arith) (omega arith) (length-replicate 4096 no-fix)
+loop-holds c = listed-none _ _ _ (omega arith) (omega arith) (length-replicate 4096 no-fix)
 
 fix-at-requires : tie.Need-fix-at-requires Inv-loop μ-loop
 fix-at-requires c κs = search needs
@@ -32,10 +32,10 @@ loop-less : tie.Need-loop-less Inv-loop μ-loop
 loop-less c = search needs
 
 loop-again : tie.Need-loop-again Inv-loop μ-loop
-loop-again c = filled-more _ _ _ _ _ (c .before .before .loop .inv) (omega arith) (c .fix-at .ensures)
+loop-again c = listed-more _ _ _ _ _ (c .before .before .loop .inv) (omega arith) (c .fix-at .ensures)
 
 returns : tie.Need-returns Inv-loop μ-loop
-returns c = filled _ _ _ _ (c .before .loop .inv) (omega arith)
+returns c = listed-all _ _ _ _ (c .before .loop .inv) (omega arith)
 
 pub fixes-of-spec : {M : Type 1} → statement M
 fixes-of-spec =
