@@ -1,11 +1,12 @@
 //! Questions to try about a trail, good and bad, and the proved answers held to the plain version's.
 
-use crate::cases::{fixes, Cases, Random, Settings, Tally};
+use crate::cases::{buffer, fixes, Cases, Random, Settings, Tally};
 use crate::expected;
 use crate::interface::{self, Crossing};
 use crate::plain::crossing::{self, Area, Question, Window};
 use crate::plain::place::Time;
 use crate::plain::{self, Fix};
+use crate::shapes::{trail, SHAPES};
 
 fn ends(fixes: &[Fix]) -> (u32, u32) {
     (fixes[0].t, fixes[fixes.len() - 1].t)
@@ -63,6 +64,22 @@ pub fn refused_in_order<Q: Asked>(
                 assert_eq!(refusal, known.into(), "{name}, {question:?}");
             }
             tally.count(refusal);
+        }
+    }
+}
+
+/// Asks trails of every shape, most of them short, ten good questions each.
+pub fn asked_of_every_shape<Q: Asked>(mut ask: impl FnMut(&[Fix], &[u8], Q, &str)) {
+    let settings = Settings::get();
+    let mut random = Random::new(settings.seed);
+    for k in 0..settings.cases {
+        let shape = SHAPES[k % SHAPES.len()];
+        let n = random.between(1, if k.is_multiple_of(20) { 400 } else { 12 });
+        let fixes = trail(shape, n as usize, &mut random);
+        let bytes = buffer(&fixes);
+        let name = format!("seed {}: {shape:?}, {n} fixes", settings.seed);
+        for _ in 0..10 {
+            ask(&fixes, &bytes, Q::good(&fixes, &mut random), &name);
         }
     }
 }

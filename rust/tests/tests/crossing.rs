@@ -6,7 +6,7 @@ use trails_tests::interface::Crossing;
 use trails_tests::plain::crossing::{Area, Question, Window};
 use trails_tests::plain::place::Time;
 use trails_tests::plain::{Fix, MOST_FIXES};
-use trails_tests::questions::{crosses, refused_in_order, told, Asked as _};
+use trails_tests::questions::{asked_of_every_shape, crosses, refused_in_order, told, Asked as _};
 use trails_tests::shapes::{trail, SHAPES};
 
 // ---- by hand
@@ -224,22 +224,12 @@ impl Kinds {
 
 #[test]
 fn trails_of_every_shape_are_answered_as_the_plain_version_does() {
-    let settings = Settings::get();
-    let mut random = Random::new(settings.seed);
     let mut kinds = Kinds::default();
-    for k in 0..settings.cases {
-        let shape = SHAPES[k % SHAPES.len()];
-        let n = random.between(1, if k.is_multiple_of(20) { 400 } else { 12 });
-        let fixes = trail(shape, n as usize, &mut random);
-        let bytes = buffer(&fixes);
-        let name = format!("seed {}: {shape:?}, {n} fixes", settings.seed);
-        for _ in 0..10 {
-            let question = Question::good(&fixes, &mut random);
-            let answer = crosses(&bytes, &question, &name);
-            assert_eq!(answer.refusal, 0, "{name}, {question:?}");
-            kinds.count(&answer, &fixes, question.window, &name);
-        }
-    }
+    asked_of_every_shape(|fixes, bytes, question: Question, name| {
+        let answer = crosses(bytes, &question, name);
+        assert_eq!(answer.refusal, 0, "{name}, {question:?}");
+        kinds.count(&answer, fixes, question.window, name);
+    });
     kinds.expect_all();
 }
 

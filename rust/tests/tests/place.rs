@@ -4,7 +4,7 @@
 use trails_tests::cases::{buffer, Random, Settings, Tally};
 use trails_tests::interface::Place;
 use trails_tests::plain::{Fix, MOST_FIXES};
-use trails_tests::questions::{place, refused_in_order, Asked as _, Moment};
+use trails_tests::questions::{asked_of_every_shape, place, refused_in_order, Moment};
 use trails_tests::shapes::{trail, SHAPES};
 
 /// The rounded number is the nearest one to n/d, and of two that are as near the upper.
@@ -101,20 +101,10 @@ fn trails_worked_by_hand() {
 
 #[test]
 fn trails_of_every_shape_are_answered_as_the_plain_version_does() {
-    let settings = Settings::get();
-    let mut random = Random::new(settings.seed);
-    for k in 0..settings.cases {
-        let shape = SHAPES[k % SHAPES.len()];
-        let n = random.between(1, if k.is_multiple_of(20) { 400 } else { 12 });
-        let fixes = trail(shape, n as usize, &mut random);
-        let bytes = buffer(&fixes);
-        let name = format!("seed {}: {shape:?}, {n} fixes", settings.seed);
-        for _ in 0..10 {
-            let moment = Moment::good(&fixes, &mut random);
-            let answer = place(&bytes, moment, &name);
-            is_rounded(&answer, &format!("{name}, {moment:?}"));
-        }
-    }
+    asked_of_every_shape(|_, bytes, moment: Moment, name| {
+        let answer = place(bytes, moment, name);
+        is_rounded(&answer, &format!("{name}, {moment:?}"));
+    });
 }
 
 #[test]
