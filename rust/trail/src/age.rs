@@ -1,15 +1,16 @@
 //! `trail age`: thins trails, by a tolerance or by days.
 
 use std::ffi::OsStr;
-use std::io::{self, IsTerminal, Write};
+use std::io::{self, IsTerminal, Read, Write};
 
 use trails::Aging;
 
 use crate::arguments::{Arguments, Command};
 use crate::failure::{Failure, Status};
-use crate::files::{self, Opened};
 use crate::json::Json;
-use crate::{output, words};
+use crate::store::{store, Locked};
+use crate::trail::refused;
+use crate::{files, output, words};
 
 pub const COMMAND: Command = Command {
     name: "age",
@@ -23,20 +24,28 @@ usage: trail age --tolerance E [--json] FILE...
        trail age --days D [--json] FILE...
        trail age (--tolerance E | --days D) FILE -o OUT
 
-Thins each trail and puts it in its file's place. The kept fixes close up at the
-trail's start, and the bytes after them are as before, so a file keeps its length.
-The new file is written beside the old one, flushed, and given its name; a refused
-or failed aging leaves the old one byte for byte, and an interrupted one may leave
-a FILE.tmp-NUMBER beside it, which can be deleted. Goes on past a refused file.
+Thins each trail and puts it in its file's place: the new record, and what
+followed the old one. The fixes that were thinned away are gone, and the file
+is shorter by the bytes that were freed. Goes on past a refused file.
+
+The new file is written beside the old one, flushed, and given its name. Group
+and permissions stay, and the owner if the superuser ages it; access lists and
+other attributes don't. The file is locked from its reading on, so that agings
+at once are made one after the other. A refused or failed aging leaves the old
+file byte for byte, and so does one that can't keep its group. An interrupted
+one may leave a FILE.tmp-NUMBER beside it, which can be deleted. Of a file with
+several names only the given one is aged.
 
   --tolerance E  the tolerance in centimetres, 0 to 32,000
-  --days D       the tolerance of a table: from day 2, 10; from day 7, 25; from
-                 day 30, 100; from day 90, 400; days 0 and 1 change nothing
-  -o OUT         store the aged trail there and leave FILE; '-' is the standard
-                 output. FILE may then be '-', the standard input
+  --days D       the tolerance of a table: from day 2, 10; from day 7, 25;
+                 from day 30, 100; from day 90, 400; days 0 and 1 change
+                 nothing
+  -o OUT         store the aged trail there and leave FILE, which may then be
+                 '-', the standard input. If OUT is '-', the standard output,
+                 the answer is on standard error
   --json         print one line for each file: {\"file\", \"before\", \"count\",
-                 \"mark\", \"measured\"}, {\"file\", \"refused\", \"sentence\"} or
-                 {\"file\", \"failed\"}
+                 \"mark\", \"measured\", \"freed\"},
+                 {\"file\", \"refused\", \"sentence\"} or {\"file\", \"failed\"}
 ";
 
 /// What an aging did to a trail.
@@ -45,34 +54,44 @@ struct Aged {
     count: u32,
     mark: Option<u16>,
     measured: u32,
+    freed: usize,
+    /// the new record, and what has been read of what followed the old one
+    bytes: Vec<u8>,
 }
 
-fn age(file: &str, bytes: &mut [u8], aging: Aging) -> Result<Aged, Failure> {
-    let before = trails::check(bytes).map_err(Failure::refused(file))?;
-    let measured = aging.apply(bytes).map_err(Failure::refused(file))?;
-    let after = trails::check(bytes).map_err(Failure::refused(file))?;
+/// Ages the record that the bytes begin with. The old record's rest goes: a new head would bring back what was thinned
+/// away.
+fn age(name: &OsStr, mut bytes: Vec<u8>, aging: Aging) -> Result<Aged, Failure> {
+    let before = trails::check(&bytes).map_err(refused(name, &bytes))?;
+    let measured = aging.apply(&mut bytes).map_err(refused(name, &bytes))?;
+    let after = trails::check(&bytes).map_err(refused(name, &bytes))?;
+    let gone = after.length()..before.length();
+    let freed = gone.len();
+    bytes.drain(gone);
     Ok(Aged {
         before: before.count,
         count: after.count,
         mark: after.mark,
         measured,
+        freed,
+        bytes,
     })
 }
 
 fn age_in_place(name: &OsStr, aging: Aging) -> Result<Aged, Failure> {
-    let opened = Opened::read(name)?;
-    let mut bytes = opened.bytes.clone();
-    let aged = age(&files::text_of(name), &mut bytes, aging)?;
-    if bytes != opened.bytes {
-        opened.replace(name, &bytes)?;
+    let locked = Locked::read(name)?;
+    let was = files::read_start(&mut &locked.file).map_err(files::failed(name))?;
+    let aged = age(name, was.clone(), aging)?;
+    if aged.bytes != was {
+        locked.replace(name, &was, aged.bytes.chain(&locked.file))?;
     }
     Ok(aged)
 }
 
 fn age_into(name: &OsStr, aging: Aging, to: &OsStr) -> Result<Aged, Failure> {
-    let mut bytes = files::read(name)?;
-    let aged = age(&files::text_of(name), &mut bytes, aging)?;
-    files::store(to, &bytes)?;
+    let (bytes, rest) = files::begin(name)?;
+    let aged = age(name, bytes, aging)?;
+    store(to, name, aged.bytes.chain(rest))?;
     Ok(aged)
 }
 
@@ -89,22 +108,24 @@ fn run(arguments: &Arguments) -> Result<Status, Failure> {
     let aging = asked(arguments)?;
     let json = arguments.has("--json");
     let names = arguments.several("one file or more")?;
-    let Some(to) = arguments.file("-o") else {
+    if !arguments.has("-o") {
         if names.iter().any(|name| name == "-") {
             return Err(arguments.wrong("'-' can't be aged in place; give -o too"));
         }
         return age_all(names, aging, json);
-    };
+    }
     let [name] = arguments.exactly("one file where -o is given")?;
-    if to != "-" {
-        let aged = age_into(name, aging, to)?;
-        answer(name, &aged, json)?;
-        return Ok(Status::Done);
+    let to = arguments.output()?;
+    if files::is_read(name, to) {
+        let what = "-o names the trail itself; leave -o out to age it in its place";
+        return Err(arguments.wrong(what));
     }
-    if json {
-        return Err(arguments.wrong("--json and '-o -' both want the standard output"));
+    let aged = age_into(name, aging, to)?;
+    match to == "-" {
+        // the trail itself is there
+        true => output::message(&text(name, &aged)),
+        false => answer(name, &aged, json)?,
     }
-    age_into(name, aging, to)?;
     Ok(Status::Done)
 }
 
@@ -112,6 +133,7 @@ fn run(arguments: &Arguments) -> Result<Status, Failure> {
 fn age_all<N: AsRef<OsStr>>(names: &[N], aging: Aging, json: bool) -> Result<Status, Failure> {
     let progress = Progress::of(names.len());
     let mut ends = Vec::new();
+    let mut freed = 0;
     let mut unheard = None;
     for (done, name) in names.iter().map(AsRef::as_ref).enumerate() {
         progress.show(done);
@@ -119,6 +141,7 @@ fn age_all<N: AsRef<OsStr>>(names: &[N], aging: Aging, json: bool) -> Result<Sta
         progress.clear();
         ends.push(match aged {
             Ok(aged) => {
+                freed += aged.freed;
                 // a trail is aged whether or not its answer is heard
                 unheard = answer(name, &aged, json).err().or(unheard);
                 Status::Done
@@ -127,7 +150,7 @@ fn age_all<N: AsRef<OsStr>>(names: &[N], aging: Aging, json: bool) -> Result<Sta
         });
     }
     if names.len() > 1 {
-        output::message(&summary(&ends));
+        output::message(&summary(&ends, freed));
     }
     match unheard {
         Some(failure) => Err(failure),
@@ -135,36 +158,32 @@ fn age_all<N: AsRef<OsStr>>(names: &[N], aging: Aging, json: bool) -> Result<Sta
     }
 }
 
-fn summary(ends: &[Status]) -> String {
+fn summary(ends: &[Status], freed: usize) -> String {
     let count = |status| ends.iter().filter(|end| **end == status).count();
     let (aged, refused) = (count(Status::Done), count(Status::Refused));
     let failed = ends.len().saturating_sub(aged).saturating_sub(refused);
     let files = ends.len();
-    format!("{files} files: {aged} aged, {refused} refused, {failed} failed")
+    format!("{files} files: {aged} aged, {refused} refused, {failed} failed; {freed} bytes freed")
+}
+
+fn text(name: &OsStr, aged: &Aged) -> String {
+    let (file, mark) = (words::shown(name), words::mark(aged.mark));
+    let kept = format!("kept {} of {} fixes", aged.count, aged.before);
+    let (measured, freed) = (aged.measured, aged.freed);
+    format!("{file}: {kept}, measured {measured}, mark {mark}, freed {freed} bytes")
 }
 
 fn answer(name: &OsStr, aged: &Aged, json: bool) -> Result<(), Failure> {
-    let file = files::text_of(name);
-    let Aged {
-        before,
-        count,
-        mark,
-        measured,
-    } = *aged;
     if !json {
-        let file = words::shown(&file);
-        let kept = format!("kept {count} of {before} fixes");
-        let mark = words::mark(mark);
-        return output::print(&format!(
-            "{file}: {kept}, measured {measured}, mark {mark}\n"
-        ));
+        return output::print(&format!("{}\n", text(name, aged)));
     }
     output::print_json(Json::Object(vec![
-        ("file", Json::Text(file)),
-        ("before", Json::Whole(before.into())),
-        ("count", Json::Whole(count.into())),
-        ("mark", Json::mark(mark)),
-        ("measured", Json::Whole(measured.into())),
+        ("file", Json::name(name)),
+        ("before", Json::Whole(aged.before.into())),
+        ("count", Json::Whole(aged.count.into())),
+        ("mark", Json::mark(aged.mark)),
+        ("measured", Json::Whole(aged.measured.into())),
+        ("freed", Json::Whole(aged.freed as i64)),
     ]))
 }
 

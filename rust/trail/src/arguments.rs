@@ -1,6 +1,9 @@
 //! The words that a command is given: options with their values, and the rest.
 
 use std::ffi::{OsStr, OsString};
+use std::iter::Peekable;
+use std::os::unix::ffi::OsStrExt;
+use std::path::Path;
 use std::str::FromStr;
 
 use trails::{Area, Moment, Window};
@@ -17,48 +20,80 @@ pub struct Command {
     pub run: fn(&Arguments) -> Result<Status, Failure>,
 }
 
-/// Every option, with the number of its values.
-const OPTIONS: [(&str, usize); 7] = [
-    ("--json", 0),
-    ("--tolerance", 1),
-    ("--days", 1),
-    ("--box", 4),
-    ("--window", 2),
-    ("--original", 1),
-    ("-o", 1),
+/// The ranges that document 01 has, for messages. A number that the interface takes is refused by the interface alone.
+pub const TOLERANCES: &str = "0 to 32,000";
+pub const DAYS: &str = "0 to 65,535";
+pub const PLACES: &str = "-16,000 to 16,000";
+pub const SECONDS: &str = "0 to 4,294,967,295";
+
+/// An option: its name, the names of its values, and the range of each, if they are numbers.
+struct Choice {
+    name: &'static str,
+    values: &'static [&'static str],
+    range: &'static str,
+}
+
+const fn choice(
+    name: &'static str,
+    values: &'static [&'static str],
+    range: &'static str,
+) -> Choice {
+    Choice {
+        name,
+        values,
+        range,
+    }
+}
+
+static OPTIONS: [Choice; 8] = [
+    choice("--json", &[], ""),
+    choice("--force", &[], ""),
+    choice("--tolerance", &["E"], TOLERANCES),
+    choice("--days", &["D"], DAYS),
+    choice("--box", &["X0", "X1", "Y0", "Y1"], PLACES),
+    choice("--window", &["S", "E"], SECONDS),
+    choice("--original", &["FILE"], ""),
+    choice("-o", &["OUT"], ""),
 ];
 
-/// A whole number of some bits, with the words for what it may be.
-pub trait Whole: FromStr {
-    const RANGE: &'static str;
-}
+impl Choice {
+    /// Its values where they are the next words. An option is no value, so that a missing one is seen.
+    fn next<'a>(&self, words: &mut Peekable<impl Iterator<Item = &'a OsStr>>) -> Vec<OsString> {
+        let next = |_: &&str| words.next_if(|word| !is_option(word));
+        let values = self.values.iter().map_while(next);
+        values.map(OsStr::to_os_string).collect()
+    }
 
-impl Whole for u16 {
-    const RANGE: &'static str = "0 to 65,535";
-}
+    /// Its values where they stand after a `=`, with commas between several. A file's name may have commas.
+    fn parts(&self, joined: &OsStr) -> Vec<OsString> {
+        let several = self.values.len() > 1;
+        let parts = joined.as_bytes().split(|byte| several && *byte == b',');
+        let part = |part| OsStr::from_bytes(part).to_os_string();
+        parts.map(part).collect()
+    }
 
-impl Whole for i16 {
-    const RANGE: &'static str = "-32,768 to 32,767";
-}
-
-impl Whole for u32 {
-    const RANGE: &'static str = "0 to 4,294,967,295";
-}
-
-impl Whole for i32 {
-    const RANGE: &'static str = "-2,147,483,648 to 2,147,483,647";
+    /// What is wrong with so many values.
+    fn counts(&self, given: usize) -> Result<(), String> {
+        let (name, all) = (self.name, self.values.join(" "));
+        match self.values.get(given..) {
+            None if all.is_empty() => Err(format!("{name} takes no value")),
+            None => Err(format!("{name} takes {all} and no more")),
+            Some([]) => Ok(()),
+            Some(missing) => {
+                let missing = missing.join(" ");
+                Err(format!("{name} takes {all}, and {missing} is missing"))
+            }
+        }
+    }
 }
 
 /// The number that a word has, or what is wrong with the word.
-pub fn whole<N: Whole>(word: &str) -> Result<N, String> {
+pub fn whole<N: FromStr>(word: &str, range: &str) -> Result<N, String> {
     word.parse().map_err(|_| {
-        // a hostile word may be long, or have characters that a terminal obeys
+        // a hostile word may be long
         let start: String = word.chars().take(40).collect();
-        let range = N::RANGE;
-        format!(
-            "'{}' isn't a whole number from {range}",
-            start.escape_debug()
-        )
+        let start = words::harmless(start);
+        format!("'{start}' isn't a whole number from {range}")
     })
 }
 
@@ -70,15 +105,38 @@ pub fn moment(word: &str) -> Result<Moment, String> {
         return Err("after the point stand one to three digits".into());
     }
     Ok(Moment {
-        second: whole(second)?,
-        thousandths: whole(&format!("{part:0<3}"))?,
+        second: whole(second, SECONDS)?,
+        thousandths: whole(&format!("{part:0<3}"), "0 to 999")?,
     })
+}
+
+/// The file of this name, also if it is `-`, which elsewhere is no file.
+fn file_named(word: &OsStr) -> OsString {
+    match word == "-" {
+        true => Path::new(".").join(word).into_os_string(),
+        false => word.to_os_string(),
+    }
+}
+
+/// Whether a word is an option: it begins with a dash, and is neither the dash alone nor a number below 0.
+fn is_option(word: &OsStr) -> bool {
+    match word.as_bytes() {
+        [b'-', next, ..] => !next.is_ascii_digit(),
+        _ => false,
+    }
+}
+
+/// A word's part before its first `=`, and the part after it.
+fn parted(word: &OsStr) -> (&OsStr, Option<&OsStr>) {
+    let mut parts = word.as_bytes().splitn(2, |byte| *byte == b'=');
+    let mut part = || parts.next().map(OsStr::from_bytes);
+    (part().unwrap_or(word), part())
 }
 
 pub struct Arguments {
     /// the words that aren't options
     pub words: Vec<OsString>,
-    given: Vec<(&'static str, Vec<OsString>)>,
+    given: Vec<(&'static Choice, Vec<OsString>)>,
     command: &'static str,
 }
 
@@ -89,40 +147,45 @@ impl Arguments {
             given: Vec::new(),
             command: command.name,
         };
-        let mut rest = words.iter();
+        let mut rest = words.iter().map(OsString::as_os_str).peekable();
         while let Some(word) = rest.next() {
             if word == "--" {
-                arguments.words.extend(rest.by_ref().cloned());
-            } else if word == "-" || !word.as_encoded_bytes().starts_with(b"-") {
-                arguments.words.push(word.clone());
-            } else {
+                arguments.words.extend(rest.by_ref().map(file_named));
+            } else if is_option(word) {
                 arguments.take(command, word, &mut rest)?;
+            } else {
+                arguments.words.push(word.to_os_string());
             }
         }
         Ok(arguments)
     }
 
+    /// Takes an option with its values.
     fn take<'a>(
         &mut self,
         command: &Command,
         word: &OsStr,
-        rest: &mut impl Iterator<Item = &'a OsString>,
+        rest: &mut Peekable<impl Iterator<Item = &'a OsStr>>,
     ) -> Result<(), Failure> {
-        let shown = words::harmless(&word.to_string_lossy());
-        let mut taken = OPTIONS
-            .iter()
-            .filter(|(name, _)| command.options.contains(name));
-        let Some((name, values)) = taken.find(|(name, _)| word == *name) else {
+        let (name, joined) = parted(word);
+        let taken = |choice: &&Choice| command.options.contains(&choice.name);
+        let mut taken = OPTIONS.iter().filter(taken);
+        let Some(choice) = taken.find(|choice| name == choice.name) else {
+            let shown = words::harmless(name);
             return Err(self.wrong(&format!("there is no option '{shown}'")));
         };
+        let name = choice.name;
         if self.has(name) {
             return Err(self.wrong(&format!("{name} is given twice")));
         }
-        let given: Vec<OsString> = rest.take(*values).cloned().collect();
-        if given.len() < *values {
-            return Err(self.wrong(&format!("{name} needs more after it, {values} in all")));
-        }
-        self.given.push((name, given));
+        let values = match joined {
+            Some(values) => choice.parts(values),
+            None => choice.next(rest),
+        };
+        choice
+            .counts(values.len())
+            .map_err(|what| self.wrong(&what))?;
+        self.given.push((choice, values));
         Ok(())
     }
 
@@ -132,13 +195,13 @@ impl Arguments {
         Failure::Usage(format!("{name}: {what}; try 'trail {name} --help'"))
     }
 
-    fn values(&self, name: &str) -> Option<&[OsString]> {
-        let found = self.given.iter().find(|(given, _)| *given == name);
-        found.map(|(_, values)| values.as_slice())
+    fn given(&self, name: &str) -> Option<(&'static Choice, &[OsString])> {
+        let found = self.given.iter().find(|(choice, _)| choice.name == name);
+        found.map(|(choice, values)| (*choice, values.as_slice()))
     }
 
     pub fn has(&self, name: &str) -> bool {
-        self.values(name).is_some()
+        self.given(name).is_some()
     }
 
     /// The words that aren't options, if they are so many.
@@ -157,21 +220,35 @@ impl Arguments {
 
     /// The file that an option names.
     pub fn file(&self, name: &str) -> Option<&OsStr> {
-        self.values(name)?.first().map(OsString::as_os_str)
+        let (_, values) = self.given(name)?;
+        values.first().map(OsString::as_os_str)
+    }
+
+    /// The file that a command stores, which it can't do without.
+    pub fn output(&self) -> Result<&OsStr, Failure> {
+        let to = self.file("-o");
+        let to = to.ok_or_else(|| self.wrong("-o and a file are missing"))?;
+        if to == "-" && self.has("--json") {
+            return Err(self.wrong("--json and '-o -' both want the standard output"));
+        }
+        Ok(to)
     }
 
     /// The numbers that an option has, if it is given.
-    fn numbers<N: Whole>(&self, name: &str) -> Result<Option<Vec<N>>, Failure> {
-        let Some(values) = self.values(name) else {
+    fn numbers<N: FromStr>(&self, name: &str) -> Result<Option<Vec<N>>, Failure> {
+        let Some((choice, values)) = self.given(name) else {
             return Ok(None);
         };
-        let number = |value: &OsString| whole(&value.to_string_lossy());
-        let numbers: Result<Vec<N>, String> = values.iter().map(number).collect();
-        let numbers = numbers.map_err(|what| self.wrong(&format!("{name}: {what}")))?;
-        Ok(Some(numbers))
+        let number = |(value, named): (&OsString, &&str)| {
+            let number = whole(&value.to_string_lossy(), choice.range);
+            number.map_err(|what| self.wrong(&format!("{name}, {named}: {what}")))
+        };
+        let numbers: Result<Vec<N>, Failure> =
+            values.iter().zip(choice.values).map(number).collect();
+        numbers.map(Some)
     }
 
-    pub fn number<N: Whole>(&self, name: &str) -> Result<Option<N>, Failure> {
+    pub fn number<N: FromStr>(&self, name: &str) -> Result<Option<N>, Failure> {
         let numbers = self.numbers(name)?;
         Ok(numbers.and_then(|numbers| numbers.into_iter().next()))
     }
@@ -200,7 +277,7 @@ impl Arguments {
 
 #[cfg(test)]
 mod tests {
-    use super::{moment, whole};
+    use super::*;
 
     #[test]
     fn moments_have_up_to_three_digits_after_the_point() {
@@ -226,8 +303,9 @@ mod tests {
 
     #[test]
     fn wrong_numbers_are_shown_harmlessly() {
-        let what = whole::<u16>("\u{1b}[2J").expect_err("no number");
-        assert_eq!(what, "'\\u{1b}[2J' isn't a whole number from 0 to 65,535");
-        assert!(whole::<i16>(&"9".repeat(1_000_000)).is_err_and(|what| what.len() < 100));
+        let what = whole::<u16>("\u{1b}[2J", TOLERANCES).expect_err("no number");
+        assert_eq!(what, "'\\u{1b}[2J' isn't a whole number from 0 to 32,000");
+        let long = whole::<i16>(&"9".repeat(1_000_000), PLACES);
+        assert!(long.is_err_and(|what| what.len() < 100));
     }
 }

@@ -5,7 +5,8 @@ use std::ffi::OsStr;
 use crate::arguments::{Arguments, Command};
 use crate::failure::{Failure, Status};
 use crate::json::Json;
-use crate::{files, output, words};
+use crate::trail::Trail;
+use crate::{output, words};
 
 pub const COMMAND: Command = Command {
     name: "check",
@@ -17,10 +18,11 @@ pub const COMMAND: Command = Command {
 const HELP: &str = "\
 usage: trail check [--json] FILE...
 
-Says of each FILE how many fixes its trail has, from which second to which, and
-its mark, or why it is refused. Goes on past a refused file.
+Says of each FILE how many fixes its trail has, from which second to which,
+and its mark, or why it is refused. Goes on past a refused file.
 
-  --json   print one line for each file: {\"file\", \"count\", \"first\", \"last\", \"mark\"},
+  --json   print one line for each file:
+           {\"file\", \"count\", \"first\", \"last\", \"mark\"},
            {\"file\", \"refused\", \"sentence\"} or {\"file\", \"failed\"}
 ";
 
@@ -31,7 +33,7 @@ fn run(arguments: &Arguments) -> Result<Status, Failure> {
         match check(name, json) {
             Ok(()) => {}
             // without a reader the other answers reach nobody either
-            Err(Failure::HungUp) => return Err(Failure::HungUp),
+            Err(Failure::Unheard(what)) => return Err(Failure::Unheard(what)),
             Err(failure) => worst = worst.max(output::report(&failure, json)),
         }
     }
@@ -39,25 +41,18 @@ fn run(arguments: &Arguments) -> Result<Status, Failure> {
 }
 
 fn check(name: &OsStr, json: bool) -> Result<(), Failure> {
-    let bytes = files::read(name)?;
-    let file = files::text_of(name);
-    let head = trails::check(&bytes).map_err(Failure::refused(&file))?;
-    let fixes = trails::fixes(&bytes).map_err(Failure::refused(&file))?;
-    // an accepted trail has a first fix and a last
-    let first = fixes.first().map_or(0, |fix| fix.t);
-    let last = fixes.last().map_or(0, |fix| fix.t);
-    let count = head.count;
+    let trail = Trail::read(name)?;
+    let (count, first, last) = (trail.fixes.len(), trail.first(), trail.last());
     if !json {
-        let mark = words::mark(head.mark);
+        let (file, mark) = (words::shown(name), words::mark(trail.mark));
         let times = format!("seconds {first} to {last}");
-        let file = words::shown(&file);
         return output::print(&format!("{file}: fixes {count}, {times}, mark {mark}\n"));
     }
     output::print_json(Json::Object(vec![
-        ("file", Json::Text(file)),
-        ("count", Json::Whole(count.into())),
+        ("file", Json::name(name)),
+        ("count", Json::Whole(count as i64)),
         ("first", Json::Whole(first.into())),
         ("last", Json::Whole(last.into())),
-        ("mark", Json::mark(head.mark)),
+        ("mark", Json::mark(trail.mark)),
     ]))
 }

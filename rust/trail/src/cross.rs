@@ -7,7 +7,8 @@ use trails::Crossing;
 use crate::arguments::{Arguments, Command};
 use crate::failure::{Failure, Status};
 use crate::json::Json;
-use crate::{files, output};
+use crate::trail::Trail;
+use crate::{meaning, output};
 
 pub const COMMAND: Command = Command {
     name: "cross",
@@ -19,58 +20,65 @@ pub const COMMAND: Command = Command {
 const HELP: &str = "\
 usage: trail cross [--json] FILE --box X0 X1 Y0 Y1 --window S E
 
-Says whether the cart was in the box, x from X0 to X1 and y from Y0 to Y1, at some
-time from second S to second E, edges and both ends included. A yes comes with the
-earliest time: the seconds after the first fix as a fraction, and the same on the
-trail's own clock, cut off after the thousandths.
+Says whether the cart was in the box, x from X0 to X1 and y from Y0 to Y1, at
+some time from second S to second E, edges and both ends included. A yes comes
+with the earliest time: the seconds after the first fix as a fraction, and the
+same on the trail's own clock, cut off after the thousandths.
 
-  --json   print one line: {\"file\", \"crosses\": true, \"numerator\", \"denominator\",
-           \"first\": the first fix's second} or {\"file\", \"crosses\": false}
+Then it says what that means of the original, the trail as the cart reported
+it, straight between its fixes: a no of a thinned trail is no proof that the
+cart wasn't in the box, but then it was near an edge. The mark is believed: of
+a record from elsewhere this holds if its mark is right.
+
+  --json   print one line: {\"file\", \"crosses\": true, \"numerator\",
+           \"denominator\", \"first\": the first fix's second, \"mark\", \"means\"}
+           or {\"file\", \"crosses\": false, \"mark\", \"means\"}
 ";
 
 fn run(arguments: &Arguments) -> Result<Status, Failure> {
     let [name]: &[OsString; 1] = arguments.exactly("one file")?;
     let area = arguments.area()?;
-    let area = area.ok_or_else(|| arguments.wrong("--box is missing"))?;
+    let area = area.ok_or_else(|| arguments.wrong("--box X0 X1 Y0 Y1 is missing"))?;
     let window = arguments.window()?;
-    let window = window.ok_or_else(|| arguments.wrong("--window is missing"))?;
-    let bytes = files::read(name)?;
-    let file = files::text_of(name);
-    let crossing = trails::crosses(&bytes, area, window).map_err(Failure::refused(&file))?;
-    let fixes = trails::fixes(&bytes).map_err(Failure::refused(&file))?;
-    let first = fixes.first().map_or(0, |fix| fix.t);
+    let window = window.ok_or_else(|| arguments.wrong("--window S E is missing"))?;
+    let trail = Trail::read(name)?;
+    let crossing = trails::crosses(&trail.bytes, area, window);
+    let crossing = crossing.map_err(|refusal| trail.refused(refusal))?;
+    let means = meaning::of_crossing(trail.mark, crossing.is_some());
     match arguments.has("--json") {
-        true => output::print_json(answer(file, crossing, first))?,
-        false => output::print(&text(crossing, first))?,
+        true => output::print_json(answer(&trail, crossing, means))?,
+        false => output::print(&format!("{}; {means}\n", text(&trail, crossing)))?,
     }
     Ok(Status::Done)
 }
 
-fn text(crossing: Option<Crossing>, first: u32) -> String {
+fn text(trail: &Trail, crossing: Option<Crossing>) -> String {
     let Some(Crossing {
         numerator,
         denominator,
     }) = crossing
     else {
-        return "no\n".into();
+        return "no".into();
     };
     // both below 2 to the power 32, so the product is far below 2 to the power 64
     let after = 1000 * u64::from(numerator) / u64::from(denominator.max(1));
-    let moment = 1000 * u64::from(first) + after;
+    let moment = 1000 * u64::from(trail.first()) + after;
     let (second, thousandths) = (moment / 1000, moment % 1000);
     let fraction = format!("{numerator}/{denominator} seconds after the first fix");
-    format!("yes, {fraction}, at {second}.{thousandths:03}\n")
+    format!("yes, {fraction}, at {second}.{thousandths:03}")
 }
 
-fn answer(file: String, crossing: Option<Crossing>, first: u32) -> Json {
+fn answer(trail: &Trail, crossing: Option<Crossing>, means: String) -> Json {
     let mut fields = vec![
-        ("file", Json::Text(file)),
+        ("file", Json::name(&trail.name)),
         ("crosses", Json::Truth(crossing.is_some())),
     ];
     if let Some(crossing) = crossing {
         fields.push(("numerator", Json::Whole(crossing.numerator.into())));
         fields.push(("denominator", Json::Whole(crossing.denominator.into())));
-        fields.push(("first", Json::Whole(first.into())));
+        fields.push(("first", Json::Whole(trail.first().into())));
     }
+    fields.push(("mark", Json::mark(trail.mark)));
+    fields.push(("means", Json::Text(means)));
     Json::Object(fields)
 }

@@ -1,5 +1,6 @@
 //! What can go wrong, and the exit status of each.
 
+use std::ffi::{OsStr, OsString};
 use std::fmt;
 
 use trails::Refusal;
@@ -19,15 +20,15 @@ pub enum Status {
 /// Where in the input something is.
 #[derive(Clone, Debug)]
 pub struct Spot {
-    pub file: String,
+    pub file: OsString,
     /// counted from 1, where the input is text and the line is known
     pub line: Option<usize>,
 }
 
 impl Spot {
-    pub fn file(file: &str) -> Spot {
+    pub fn file(name: &OsStr) -> Spot {
         Spot {
-            file: file.to_string(),
+            file: name.to_os_string(),
             line: None,
         }
     }
@@ -43,6 +44,37 @@ impl fmt::Display for Spot {
     }
 }
 
+/// What is known of the input that a refusal's sentence doesn't tell.
+#[derive(Clone, Copy, Debug)]
+pub enum Fact {
+    /// So many fixes.
+    Count(usize),
+    /// The trail's first second and its last.
+    Seconds(u32, u32),
+}
+
+impl Fact {
+    /// What programs are told of it.
+    fn fields(self) -> Vec<(&'static str, Json)> {
+        match self {
+            Fact::Count(count) => vec![("count", Json::Whole(count as i64))],
+            Fact::Seconds(first, last) => vec![
+                ("first", Json::Whole(first.into())),
+                ("last", Json::Whole(last.into())),
+            ],
+        }
+    }
+}
+
+impl fmt::Display for Fact {
+    fn fmt(&self, to: &mut fmt::Formatter) -> fmt::Result {
+        match self {
+            Fact::Count(count) => write!(to, "The count is {count}."),
+            Fact::Seconds(first, last) => write!(to, "The trail has seconds {first} to {last}."),
+        }
+    }
+}
+
 #[derive(Debug)]
 pub enum Failure {
     /// The command isn't given as its help says.
@@ -50,36 +82,36 @@ pub enum Failure {
     /// A line of a text isn't what it should be.
     Line(Spot, String),
     /// Document 01 turns it away.
-    Refused(Spot, Refusal),
+    Refused(Spot, Refusal, Option<Fact>),
     /// A file couldn't be read or written.
-    File(String, String),
-    /// Nobody reads what is printed any more, so nobody is told.
-    HungUp,
+    File(OsString, String),
+    /// An answer couldn't be printed.
+    Unheard(String),
 }
 
 impl Failure {
-    pub fn refused(file: &str) -> impl FnOnce(Refusal) -> Failure + '_ {
-        move |refusal| Failure::Refused(Spot::file(file), refusal)
-    }
-
     pub fn status(&self) -> Status {
         match self {
             Failure::Usage(_) | Failure::Line(..) => Status::Usage,
             Failure::Refused(..) => Status::Refused,
-            Failure::File(..) | Failure::HungUp => Status::Failed,
+            Failure::File(..) | Failure::Unheard(_) => Status::Failed,
         }
     }
 
-    /// What programs are told: of wrong usage nothing.
+    /// What programs are told: of wrong usage nothing, and nothing where they can't be.
     pub fn answer(&self) -> Option<Json> {
         let failed = |what: &String| vec![("failed", Json::Text(what.clone()))];
         let (spot, what) = match self {
-            Failure::Refused(spot, refusal) => (spot.clone(), refusal_fields(*refusal).into()),
+            Failure::Refused(spot, refusal, fact) => {
+                let mut fields = Vec::from(refusal_fields(*refusal));
+                fields.extend(fact.map(Fact::fields).unwrap_or_default());
+                (spot.clone(), fields)
+            }
             Failure::Line(spot, what) => (spot.clone(), failed(what)),
             Failure::File(file, what) => (Spot::file(file), failed(what)),
-            Failure::Usage(_) | Failure::HungUp => return None,
+            Failure::Usage(_) | Failure::Unheard(_) => return None,
         };
-        let mut fields = vec![("file", Json::Text(spot.file))];
+        let mut fields = vec![("file", Json::Name(spot.file))];
         fields.extend(spot.line.map(|line| ("line", Json::Whole(line as i64))));
         fields.extend(what);
         Some(Json::Object(fields))
@@ -99,11 +131,12 @@ impl fmt::Display for Failure {
         match self {
             Failure::Usage(what) => write!(to, "trail: {what}"),
             Failure::Line(spot, what) => write!(to, "{spot}: {what}"),
-            Failure::Refused(spot, refusal) => {
-                write!(to, "{spot}: refused {}: {refusal}", refusal.number())
+            Failure::Refused(spot, refusal, fact) => {
+                write!(to, "{spot}: refused {}: {refusal}", refusal.number())?;
+                fact.map_or(Ok(()), |fact| write!(to, " {fact}"))
             }
             Failure::File(file, what) => write!(to, "{}: {what}", shown(file)),
-            Failure::HungUp => to.write_str("nobody reads the output"),
+            Failure::Unheard(what) => write!(to, "standard output: {what}"),
         }
     }
 }

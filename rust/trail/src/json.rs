@@ -1,17 +1,27 @@
 //! A small writer of JSON, for answers that programs read.
 
+use std::ffi::{OsStr, OsString};
 use std::fmt;
+use std::os::unix::ffi::OsStrExt;
+
+use crate::words;
 
 pub enum Json {
     Null,
     Truth(bool),
     Whole(i64),
     Text(String),
+    /// A file's name, exactly: a byte that isn't UTF-8 is a lone surrogate, from \udc80 to \udcff, as in Python's names.
+    Name(OsString),
     List(Vec<Json>),
     Object(Vec<(&'static str, Json)>),
 }
 
 impl Json {
+    pub fn name(name: &OsStr) -> Json {
+        Json::Name(name.to_os_string())
+    }
+
     /// A mark, null for a trail that was never thinned.
     pub fn mark(mark: Option<u16>) -> Json {
         mark.map_or(Json::Null, |mark| Json::Whole(mark.into()))
@@ -25,16 +35,30 @@ impl Json {
     }
 }
 
+/// What stands between the quotes. What a terminal would obey is escaped, so that a line may be looked at too.
 fn text(text: &str, to: &mut fmt::Formatter) -> fmt::Result {
-    to.write_str("\"")?;
     for c in text.chars() {
         match c {
             '"' | '\\' => write!(to, "\\{c}")?,
-            c if u32::from(c) < 0x20 => write!(to, "\\u{:04x}", u32::from(c))?,
+            c if words::steers(c) => {
+                for unit in c.encode_utf16(&mut [0; 2]) {
+                    write!(to, "\\u{unit:04x}")?;
+                }
+            }
             c => write!(to, "{c}")?,
         }
     }
-    to.write_str("\"")
+    Ok(())
+}
+
+fn name(name: &OsStr, to: &mut fmt::Formatter) -> fmt::Result {
+    for chunk in name.as_bytes().utf8_chunks() {
+        text(chunk.valid(), to)?;
+        for byte in chunk.invalid() {
+            write!(to, "\\udc{byte:02x}")?;
+        }
+    }
+    Ok(())
 }
 
 impl fmt::Display for Json {
@@ -43,7 +67,16 @@ impl fmt::Display for Json {
             Json::Null => to.write_str("null"),
             Json::Truth(truth) => write!(to, "{truth}"),
             Json::Whole(number) => write!(to, "{number}"),
-            Json::Text(string) => text(string, to),
+            Json::Text(string) => {
+                to.write_str("\"")?;
+                text(string, to)?;
+                to.write_str("\"")
+            }
+            Json::Name(string) => {
+                to.write_str("\"")?;
+                name(string, to)?;
+                to.write_str("\"")
+            }
             Json::List(values) => {
                 to.write_str("[")?;
                 for (k, value) in values.iter().enumerate() {
@@ -66,12 +99,19 @@ impl fmt::Display for Json {
 
 #[cfg(test)]
 mod tests {
-    use super::Json;
+    use super::*;
 
     #[test]
     fn strings_are_escaped() {
-        let string = Json::Text("a\"b\\c\nd\u{1}é".into());
-        assert_eq!(string.to_string(), r#""a\"b\\c\u000ad\u0001é""#);
+        let string = Json::Text("a\"b\\c\nd\u{1}é\u{7f}\u{202e}\u{e0001}".into());
+        let escaped = r#""a\"b\\c\u000ad\u0001é\u007f\u202e\udb40\udc01""#;
+        assert_eq!(string.to_string(), escaped);
+    }
+
+    #[test]
+    fn names_are_exact() {
+        let name = Json::name(OsStr::from_bytes(b"a\xffb\xc3\x28\xc3\xa9"));
+        assert_eq!(name.to_string(), r#""a\udcffb\udcc3(é""#);
     }
 
     #[test]

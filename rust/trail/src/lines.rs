@@ -1,5 +1,7 @@
 //! Texts of one entry a line: fields between spaces or commas, and comments from `#` to the line's end.
 
+use std::ffi::OsStr;
+
 use crate::failure::{Failure, Spot};
 
 /// The fields of a line: none, if it is empty or a comment.
@@ -25,7 +27,7 @@ fn entry<T>(
 
 /// Reads each line that isn't empty or a comment, and gives its number with it. The first bad line is named.
 pub fn entries<T>(
-    file: &str,
+    name: &OsStr,
     text: &[u8],
     read: impl Fn(&[&str]) -> Result<T, String>,
 ) -> Result<Vec<(usize, T)>, Failure> {
@@ -36,7 +38,7 @@ pub fn entries<T>(
         let bad = |what| {
             let spot = Spot {
                 line: Some(number),
-                ..Spot::file(file)
+                ..Spot::file(name)
             };
             Failure::Line(spot, what)
         };

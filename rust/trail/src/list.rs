@@ -5,7 +5,8 @@ use std::ffi::OsString;
 use crate::arguments::{Arguments, Command};
 use crate::failure::{Failure, Status};
 use crate::json::Json;
-use crate::{files, output};
+use crate::output;
+use crate::trail::{refused, Trail};
 
 pub const COMMAND: Command = Command {
     name: "list",
@@ -20,25 +21,23 @@ usage: trail list [--json] FILE
 Prints the trail that FILE begins with: its count and mark ('never' for one
 that was never thinned), then time, x and y of each fix, then 'end'.
 
-  --json   print one line: {\"file\", \"count\", \"mark\", \"fixes\": [[t, x, y], ...]}
+  --json   print one line:
+           {\"file\", \"count\", \"mark\", \"fixes\": [[t, x, y], ...]}
 ";
 
 fn run(arguments: &Arguments) -> Result<Status, Failure> {
     let [name]: &[OsString; 1] = arguments.exactly("one file")?;
-    let bytes = files::read(name)?;
-    let file = files::text_of(name);
+    let trail = Trail::read(name)?;
     if !arguments.has("--json") {
-        let text = trails::list(&bytes).map_err(Failure::refused(&file))?;
+        let text = trails::list(&trail.bytes).map_err(refused(name, &trail.bytes))?;
         output::print(&text)?;
         return Ok(Status::Done);
     }
-    let head = trails::check(&bytes).map_err(Failure::refused(&file))?;
-    let fixes = trails::fixes(&bytes).map_err(Failure::refused(&file))?;
     output::print_json(Json::Object(vec![
-        ("file", Json::Text(file)),
-        ("count", Json::Whole(head.count.into())),
-        ("mark", Json::mark(head.mark)),
-        ("fixes", Json::fixes(&fixes)),
+        ("file", Json::name(name)),
+        ("count", Json::Whole(trail.fixes.len() as i64)),
+        ("mark", Json::mark(trail.mark)),
+        ("fixes", Json::fixes(&trail.fixes)),
     ]))?;
     Ok(Status::Done)
 }

@@ -13,21 +13,24 @@ mod files;
 mod json;
 mod lines;
 mod list;
+mod meaning;
 mod output;
 mod place;
 mod plot;
 mod replay;
+mod store;
+mod trail;
 mod words;
 mod write;
 
-use std::ffi::OsString;
+use std::ffi::{OsStr, OsString};
 use std::process::ExitCode;
 use std::thread;
 
 use arguments::{Arguments, Command};
 use failure::{Failure, Status};
 
-const COMMANDS: [Command; 8] = [
+static COMMANDS: [Command; 8] = [
     list::COMMAND,
     check::COMMAND,
     write::COMMAND,
@@ -50,14 +53,17 @@ usage: trail COMMAND ARGUMENTS
   replay   try a list of agings on a trail, and print what each does
   plot     draw a trail
 
-'trail COMMAND --help' says more. A file '-' is the standard input or output.
-Times are in seconds and places in centimetres.
+'trail help COMMAND' says more. A file '-' is the standard input or output,
+and after '--' every argument is a file. '--box 0 9 0 9' and '--box=0,9,0,9'
+are the same. Times are in seconds and places in centimetres. Of a file that is
+read, what follows its trail is ignored.
 
 With --json the answer is one line of JSON, and so is a refusal, {\"file\",
-\"refused\", \"sentence\"}, or a failure, {\"file\", \"failed\"}.
+\"refused\", \"sentence\"}, or a failure, {\"file\", \"failed\"}. A byte of a file's
+name that isn't UTF-8 is there one of \\udc80 to \\udcff, as Python has it.
 
 Exit status: 0 done; 1 refused, with the refusal's number and sentence;
-2 wrong usage; 3 a file couldn't be read or written.
+2 wrong usage; 3 a file couldn't be read or written, or an answer printed.
 ";
 
 /// An aging takes up to 600,000 bytes of stack, whatever limit the shell has set for the first thread.
@@ -80,11 +86,7 @@ fn main() -> ExitCode {
 }
 
 fn run(words: &[OsString]) -> Status {
-    let json = words.iter().any(|word| word == "--json");
-    match obey(words) {
-        Ok(status) => status,
-        Err(failure) => output::report(&failure, json),
-    }
+    obey(words).unwrap_or_else(|failure| output::report(&failure, false))
 }
 
 fn asks_help(words: &[OsString]) -> bool {
@@ -92,26 +94,41 @@ fn asks_help(words: &[OsString]) -> bool {
     options.any(|word| word == "--help" || word == "-h")
 }
 
+fn command_named(name: &OsStr) -> Result<&'static Command, Failure> {
+    let command = COMMANDS.iter().find(|command| name == command.name);
+    command.ok_or_else(|| {
+        let name = words::harmless(name);
+        Failure::Usage(format!("there is no command '{name}'; try 'trail --help'"))
+    })
+}
+
+/// Prints the help of a command, or of all.
+fn help(about: &[OsString]) -> Result<Status, Failure> {
+    let text = match about {
+        [] => HELP,
+        [name] => command_named(name)?.help,
+        _ => {
+            let what = "help takes one command; try 'trail --help'";
+            return Err(Failure::Usage(what.into()));
+        }
+    };
+    output::print(text)?;
+    Ok(Status::Done)
+}
+
 fn obey(words: &[OsString]) -> Result<Status, Failure> {
     let Some((name, rest)) = words.split_first() else {
-        return Err(Failure::Usage(
-            "no command is given; try 'trail --help'".into(),
-        ));
+        let what = "no command is given; try 'trail --help'";
+        return Err(Failure::Usage(what.into()));
     };
-    if name == "--help" || name == "-h" {
-        output::print(HELP)?;
-        return Ok(Status::Done);
+    if name == "help" || name == "--help" || name == "-h" {
+        return help(rest);
     }
-    let Some(command) = COMMANDS.iter().find(|command| name == command.name) else {
-        let name = words::harmless(&name.to_string_lossy());
-        return Err(Failure::Usage(format!(
-            "there is no command '{name}'; try 'trail --help'"
-        )));
-    };
+    let command = command_named(name)?;
     if asks_help(rest) {
-        output::print(command.help)?;
-        return Ok(Status::Done);
+        return help(&words[..1]);
     }
     let arguments = Arguments::parse(command, rest)?;
-    (command.run)(&arguments)
+    let json = arguments.has("--json");
+    Ok((command.run)(&arguments).unwrap_or_else(|failure| output::report(&failure, json)))
 }

@@ -1,22 +1,24 @@
 //! What is printed: answers on standard output, messages on standard error.
 
-use std::io::{self, ErrorKind, Write};
+use std::io::{self, Read, Write};
+
+use trails::interface::began_without_output;
 
 use crate::failure::{Failure, Status};
 use crate::json::Json;
 
-/// Prints bytes, all of them or with a failure.
-pub fn print_bytes(bytes: &[u8]) -> Result<(), Failure> {
+/// Prints all that is read, or fails.
+pub fn print_all(mut contents: impl Read) -> Result<(), Failure> {
+    if began_without_output() {
+        return Err(Failure::Unheard("it is closed".into()));
+    }
     let mut to = io::stdout().lock();
-    let printed = to.write_all(bytes).and_then(|()| to.flush());
-    printed.map_err(|error| match error.kind() {
-        ErrorKind::BrokenPipe => Failure::HungUp,
-        _ => Failure::File("standard output".into(), error.to_string()),
-    })
+    let printed = io::copy(&mut contents, &mut to).and_then(|_| to.flush());
+    printed.map_err(|error| Failure::Unheard(error.to_string()))
 }
 
 pub fn print(text: &str) -> Result<(), Failure> {
-    print_bytes(text.as_bytes())
+    print_all(text.as_bytes())
 }
 
 /// Prints an answer that programs read, on a line of its own.
@@ -31,12 +33,16 @@ pub fn message(text: &str) {
 
 /// Tells people of a failure on standard error and, if they listen, programs on standard output.
 pub fn report(failure: &Failure, json: bool) -> Status {
-    if !matches!(failure, Failure::HungUp) {
-        message(&failure.to_string());
-    }
+    message(&failure.to_string());
     let told = match failure.answer() {
         Some(answer) if json => print_json(answer),
         _ => Ok(()),
     };
-    told.map_or(Status::Failed, |()| failure.status())
+    match told {
+        Ok(()) => failure.status(),
+        Err(unheard) => {
+            message(&unheard.to_string());
+            unheard.status()
+        }
+    }
 }

@@ -7,7 +7,8 @@ use trails::Place;
 use crate::arguments::{moment, Arguments, Command};
 use crate::failure::{Failure, Status};
 use crate::json::Json;
-use crate::{files, output};
+use crate::trail::Trail;
+use crate::{meaning, output};
 
 pub const COMMAND: Command = Command {
     name: "place",
@@ -20,42 +21,51 @@ const HELP: &str = "\
 usage: trail place [--json] FILE SECOND[.mmm]
 
 Prints where the cart was at a moment: x and y in whole centimetres, halves
-upward, and then the same exactly, as fractions that aren't reduced.
+upward, and the same exactly, as fractions that aren't reduced. Then it says
+what that means of the original, the trail as the cart reported it, straight
+between its fixes: if FILE's trail was thinned, within how many centimetres of
+the exact place the original was at that moment. The mark is believed: of a
+record from elsewhere this holds if its mark is right.
 
-  --json   print one line: {\"file\", \"x\", \"y\", \"exact\": {\"x\", \"y\", \"denominator\"}}
+  --json   print one line: {\"file\", \"x\", \"y\",
+           \"exact\": {\"x\", \"y\", \"denominator\"}, \"mark\", \"means\"}
 ";
 
 fn run(arguments: &Arguments) -> Result<Status, Failure> {
     let [name, word]: &[OsString; 2] = arguments.exactly("a file and a second")?;
     let asked = moment(&word.to_string_lossy()).map_err(|what| arguments.wrong(&what))?;
-    let bytes = files::read(name)?;
-    let file = files::text_of(name);
-    let found = trails::place(&bytes, asked).map_err(Failure::refused(&file))?;
+    let trail = Trail::read(name)?;
+    let found = trails::place(&trail.bytes, asked);
+    let found = found.map_err(|refusal| trail.refused(refusal))?;
     match arguments.has("--json") {
-        true => output::print_json(answer(file, found))?,
-        false => output::print(&text(found))?,
+        true => output::print_json(answer(&trail, found))?,
+        false => output::print(&text(&trail, found))?,
     }
     Ok(Status::Done)
 }
 
-fn text(found: Place) -> String {
+fn text(trail: &Trail, found: Place) -> String {
     let Place {
         denominator, x, y, ..
     } = found;
     let (whole_x, whole_y) = (found.whole_x, found.whole_y);
-    format!("place {whole_x} {whole_y}\nexact {x}/{denominator} {y}/{denominator}\n")
+    let exact = format!("exact {x}/{denominator} {y}/{denominator}");
+    let means = meaning::of_place(trail.mark);
+    format!("place {whole_x} {whole_y}\n{exact}\n{means}\n")
 }
 
-fn answer(file: String, found: Place) -> Json {
+fn answer(trail: &Trail, found: Place) -> Json {
     let exact = Json::Object(vec![
         ("x", Json::Whole(found.x)),
         ("y", Json::Whole(found.y)),
         ("denominator", Json::Whole(found.denominator.into())),
     ]);
     Json::Object(vec![
-        ("file", Json::Text(file)),
+        ("file", Json::name(&trail.name)),
         ("x", Json::Whole(found.whole_x.into())),
         ("y", Json::Whole(found.whole_y.into())),
         ("exact", exact),
+        ("mark", Json::mark(trail.mark)),
+        ("means", Json::Text(meaning::of_place(trail.mark))),
     ])
 }

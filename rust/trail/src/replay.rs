@@ -1,15 +1,15 @@
 //! `trail replay`: tries a list of agings on a trail, and prints what each does.
 
-use std::ffi::OsString;
+use std::ffi::{OsStr, OsString};
 use std::fmt::Write as _;
 
 use trails::{Aging, Refusal};
 
-use crate::arguments::{whole, Arguments, Command};
+use crate::arguments::{whole, Arguments, Command, DAYS, TOLERANCES};
 use crate::failure::{refusal_fields, Failure, Status};
 use crate::json::Json;
-use crate::lines;
-use crate::{files, output};
+use crate::trail::{refused, Trail};
+use crate::{files, lines, output};
 
 pub const COMMAND: Command = Command {
     name: "replay",
@@ -25,10 +25,11 @@ Ages a copy of FILE's trail by each line of CALLS, which is
 
   tolerance E      or      days D
 
-and prints each answer, refused ones too. Then it prints E, the greatest tolerance
-that the calls applied ('none' if none did), and the trail's listing with its mark
-and fixes. Of a trail marked never, the fixes are those that one thinning at E
-keeps. FILE stays as it is. Empty lines and comments from '#' on are skipped.
+and prints each answer, refused ones too. Then it prints E, the greatest
+tolerance that the calls applied ('none' if none did), and the trail's listing
+with its mark and fixes. Of a trail marked never, the fixes are those that one
+thinning at E keeps. FILE stays as it is. Empty lines and comments from '#' on
+are skipped.
 
   --json   print one line: {\"file\", \"answers\", \"E\", \"mark\", \"fixes\"}
 ";
@@ -41,8 +42,8 @@ struct Done {
 
 fn aging(fields: &[&str]) -> Result<Aging, String> {
     match fields {
-        ["tolerance", number] => Ok(Aging::Tolerance(whole(number)?)),
-        ["days", number] => Ok(Aging::Days(whole(number)?)),
+        ["tolerance", number] => Ok(Aging::Tolerance(whole(number, TOLERANCES)?)),
+        ["days", number] => Ok(Aging::Days(whole(number, DAYS)?)),
         _ => Err("a call is 'tolerance E' or 'days D'".into()),
     }
 }
@@ -58,20 +59,18 @@ fn run(arguments: &Arguments) -> Result<Status, Failure> {
     if name == "-" && calls == "-" {
         return Err(arguments.wrong("only one of the two can be the standard input"));
     }
-    let mut record = files::read(name)?;
-    let file = files::text_of(name);
-    trails::check(&record).map_err(Failure::refused(&file))?;
-    let text = files::read(calls)?;
-    let calls = lines::entries(&files::text_of(calls), &text, aging)?;
+    let mut record = Trail::read(name)?.bytes;
+    let text = files::read_text(calls)?;
+    let calls = lines::entries(calls, &text, aging)?;
     let calls = calls.into_iter().map(|(_, aging)| aging);
     let done: Vec<Done> = calls.map(|aging| make(aging, &mut record)).collect();
     // from the calls alone, as document 01's book has it
     let greatest = done.iter().filter_map(|done| done.aging.applies()).max();
     let answer = match arguments.has("--json") {
-        true => answer(&file, &done, greatest, &record).map(|json| format!("{json}\n")),
+        true => answer(name, &done, greatest, &record).map(|json| format!("{json}\n")),
         false => text_of(&done, greatest, &record),
     };
-    output::print(&answer.map_err(Failure::refused(&file))?)?;
+    output::print(&answer.map_err(refused(name, &record))?)?;
     Ok(Status::Done)
 }
 
@@ -103,7 +102,7 @@ fn words(aging: Aging) -> (&'static str, u16) {
 }
 
 fn answer(
-    file: &str,
+    name: &OsStr,
     done: &[Done],
     greatest: Option<u16>,
     record: &[u8],
@@ -121,7 +120,7 @@ fn answer(
         Json::Object(fields)
     };
     Ok(Json::Object(vec![
-        ("file", Json::Text(file.into())),
+        ("file", Json::name(name)),
         ("answers", Json::List(done.iter().map(one).collect())),
         ("E", Json::mark(greatest)),
         ("mark", Json::mark(trails::check(record)?.mark)),

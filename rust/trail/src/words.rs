@@ -1,23 +1,66 @@
-//! How names and marks are put for people.
+//! How names, marks and lists are put for people.
 
-/// A word as people read it: on one line, and with nothing that a terminal obeys.
-pub fn harmless(word: &str) -> String {
-    let harmless = |c: char| match c {
-        c if c.is_control() => c.escape_default().to_string(),
-        c => c.to_string(),
-    };
-    word.chars().map(harmless).collect()
+use std::ffi::OsStr;
+use std::os::unix::ffi::OsStrExt;
+
+/// Whether a terminal obeys a character or hides it: controls, marks that turn a line's direction, separators of lines,
+/// and signs without width.
+pub fn steers(c: char) -> bool {
+    let unseen = matches!(
+        c,
+        '\u{61c}'
+            | '\u{180e}'
+            | '\u{200b}'..='\u{200f}'
+            | '\u{2028}'..='\u{202e}'
+            | '\u{2060}'..='\u{206f}'
+            | '\u{feff}'
+            | '\u{fff9}'..='\u{fffb}'
+            | '\u{e0000}'..='\u{e007f}'
+    );
+    unseen || c.is_control()
+}
+
+/// A word as people read it: on one line, and with nothing that a terminal obeys. Bytes that aren't UTF-8 are numbers.
+pub fn harmless(word: impl AsRef<OsStr>) -> String {
+    let mut text = String::new();
+    for chunk in word.as_ref().as_bytes().utf8_chunks() {
+        for c in chunk.valid().chars() {
+            match c {
+                '\\' => text.push_str("\\\\"),
+                c if steers(c) => text.extend(c.escape_default()),
+                c => text.push(c),
+            }
+        }
+        let numbers = chunk.invalid().iter().map(|byte| format!("\\x{byte:02x}"));
+        text.extend(numbers);
+    }
+    text
 }
 
 /// The name of a file that is read, as people read it.
-pub fn shown(file: &str) -> String {
-    match file {
-        "-" => "standard input".into(),
-        file => harmless(file),
+pub fn shown(name: &OsStr) -> String {
+    match name.as_bytes() {
+        b"-" => "standard input".into(),
+        b"" => "''".into(),
+        _ => harmless(name),
     }
 }
 
 /// A mark as people read it.
 pub fn mark(mark: Option<u16>) -> String {
     mark.map_or("never".into(), |mark| mark.to_string())
+}
+
+#[cfg(test)]
+mod tests {
+    use super::*;
+
+    #[test]
+    fn what_a_terminal_obeys_is_escaped() {
+        assert_eq!(harmless("Wagen é e\u{301} \"1\""), "Wagen é e\u{301} \"1\"");
+        assert_eq!(harmless("a\u{1b}[2J\n"), "a\\u{1b}[2J\\n");
+        assert_eq!(harmless("a\u{9b}\u{202e}b"), "a\\u{9b}\\u{202e}b");
+        assert_eq!(harmless("a\\n"), "a\\\\n");
+        assert_eq!(harmless(OsStr::from_bytes(b"a\xff\xc3")), "a\\xff\\xc3");
+    }
 }

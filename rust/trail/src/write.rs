@@ -4,31 +4,32 @@ use std::ffi::OsString;
 
 use trails::{Fix, Refusal};
 
-use crate::arguments::{whole, Arguments, Command};
-use crate::failure::{Failure, Spot, Status};
+use crate::arguments::{whole, Arguments, Command, PLACES, SECONDS};
+use crate::failure::{Fact, Failure, Spot, Status};
 use crate::json::Json;
-use crate::lines;
-use crate::{files, output};
+use crate::store::store;
+use crate::{files, lines, output};
 
 pub const COMMAND: Command = Command {
     name: "write",
     help: HELP,
-    options: &["-o", "--json"],
+    options: &["-o", "--force", "--json"],
     run,
 };
 
 const HELP: &str = "\
-usage: trail write [--json] FIXES -o FILE
+usage: trail write [--json] [--force] FIXES -o FILE
 
 Makes a trail, marked never thinned, of a text that has a fix in each line:
 
   time x y      or      time,x,y
 
-in whole seconds and centimetres. Empty lines, and comments from '#' to a line's
-end, are skipped. A bad line is named with its number, and then nothing is
-stored; a FILE that is there already is replaced only by a whole new one.
+in whole seconds and centimetres. Empty lines, and comments from '#' to a
+line's end, are skipped. A bad line is named with its number, and then nothing
+is stored; a FILE that is there already is replaced only by a whole new one.
 
   -o FILE  where the trail goes; '-' is the standard output
+  --force  let FILE be the text itself, which the trail then replaces
   --json   print one line: {\"file\", \"count\", \"bytes\"}
 ";
 
@@ -41,9 +42,9 @@ fn fix(fields: &[&str]) -> Result<Fix, String> {
     };
     let named = |field| move |what| format!("{field}: {what}");
     Ok(Fix {
-        t: whole(t).map_err(named("time"))?,
-        x: whole(x).map_err(named("x"))?,
-        y: whole(y).map_err(named("y"))?,
+        t: whole(t, SECONDS).map_err(named("time"))?,
+        x: whole(x, PLACES).map_err(named("x"))?,
+        y: whole(y, PLACES).map_err(named("y"))?,
     })
 }
 
@@ -66,26 +67,29 @@ fn refused_line(refusal: Refusal, entries: &[(usize, Fix)]) -> Option<usize> {
 
 fn run(arguments: &Arguments) -> Result<Status, Failure> {
     let [from]: &[OsString; 1] = arguments.exactly("one text with fixes")?;
-    let json = arguments.has("--json");
-    let to = arguments.file("-o");
-    let to = to.ok_or_else(|| arguments.wrong("-o and a file are missing"))?;
-    if json && to == "-" {
-        return Err(arguments.wrong("--json and '-o -' both want the standard output"));
+    let to = arguments.output()?;
+    if files::is_read(from, to) && !arguments.has("--force") {
+        return Err(arguments.wrong("-o names the text itself; --force replaces it"));
     }
-    let text = files::read(from)?;
-    let entries = lines::entries(&files::text_of(from), &text, fix)?;
+    let text = files::read_text(from)?;
+    let entries = lines::entries(from, &text, fix)?;
     let fixes: Vec<Fix> = entries.iter().map(|(_, fix)| *fix).collect();
     let record = trails::write(&fixes).map_err(|refusal| {
         let spot = Spot {
             line: refused_line(refusal, &entries),
-            ..Spot::file(&files::text_of(from))
+            ..Spot::file(from)
         };
-        Failure::Refused(spot, refusal)
+        let count = Some(Fact::Count(fixes.len()));
+        Failure::Refused(
+            spot,
+            refusal,
+            count.filter(|_| refusal == Refusal::BadCount),
+        )
     })?;
-    files::store(to, &record)?;
-    if json {
+    store(to, from, record.as_slice())?;
+    if arguments.has("--json") {
         output::print_json(Json::Object(vec![
-            ("file", Json::Text(files::text_of(to))),
+            ("file", Json::name(to)),
             ("count", Json::Whole(fixes.len() as i64)),
             ("bytes", Json::Whole(record.len() as i64)),
         ]))?;

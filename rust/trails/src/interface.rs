@@ -1,8 +1,10 @@
 //! The functions of `include/trails.h`, one for one: slices in place of pointers, and answers in numbers as the header has
 //! them. The rest of this package puts types in their place, so a program wants these only to see the numbers themselves.
 //!
-//! This is the only file with `unsafe`.
+//! This is the only file with `unsafe`, so one question to the operating system stands here too, at the end.
 #![allow(unsafe_code)]
+
+use std::sync::atomic::{AtomicBool, Ordering};
 
 /// What a record's head says.
 #[repr(C)]
@@ -275,4 +277,36 @@ pub fn crosses_after(record: &mut [u8], calls: &[u32], asked: Question) -> Cross
             asked.top,
         )
     }
+}
+
+/// Whether the program began with its standard output closed. Rust's runtime then puts `/dev/null` in its place, where
+/// answers would be lost without a word, so this is asked before the runtime starts; afterwards nothing tells it from
+/// an output that somebody has sent there.
+pub fn began_without_output() -> bool {
+    WITHOUT_OUTPUT.load(Ordering::Relaxed)
+}
+
+static WITHOUT_OUTPUT: AtomicBool = AtomicBool::new(false);
+
+#[cfg(target_os = "linux")]
+mod before_main {
+    use super::{Ordering, WITHOUT_OUTPUT};
+
+    extern "C" {
+        /// The C library's: -1 if it fails, which with `F_GETFD` means that the descriptor isn't open.
+        fn fcntl(descriptor: i32, command: i32, ...) -> i32;
+    }
+
+    extern "C" fn look_at_output() {
+        const STANDARD_OUTPUT: i32 = 1;
+        const F_GETFD: i32 = 1;
+        // SAFETY: this command takes no further argument, and it only asks.
+        let closed = unsafe { fcntl(STANDARD_OUTPUT, F_GETFD) } == -1;
+        WITHOUT_OUTPUT.store(closed, Ordering::Relaxed);
+    }
+
+    // SAFETY: what stands in this section is called before Rust's runtime starts, and this function uses nothing of it.
+    #[used]
+    #[link_section = ".init_array"]
+    static LOOK: extern "C" fn() = look_at_output;
 }

@@ -27,5 +27,5 @@ mod refusal;
 
 pub use aging::{age, age_by_days, run, Aging};
 pub use questions::{crosses, crosses_after, place, Area, Crossing, Moment, Place, Window};
-pub use record::{check, fixes, list, write, write_into, Fix, Head, LONGEST};
+pub use record::{check, claimed_count, fixes, list, write, write_into, Fix, Head, LONGEST};
 pub use refusal::Refusal;

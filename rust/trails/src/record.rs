@@ -33,6 +33,19 @@ pub struct Head {
     pub mark: Option<u16>,
 }
 
+impl Head {
+    /// How many bytes the record has.
+    pub fn length(&self) -> usize {
+        HEAD + FIX * self.count as usize
+    }
+}
+
+/// The count that the bytes give, whatever else is wrong with them: none if they are fewer than 10.
+pub fn claimed_count(record: &[u8]) -> Option<u16> {
+    let count = record.get(..HEAD)?.last_chunk()?;
+    Some(u16::from_le_bytes(*count))
+}
+
 /// Whether the bytes begin with a record; bytes after it are ignored. Makes checks 1 to 9.
 pub fn check(record: &[u8]) -> Result<Head, Refusal> {
     let head = interface::check(record);

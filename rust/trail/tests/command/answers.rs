@@ -1,18 +1,19 @@
 //! Good input: what each command answers, to people and to programs.
 
-use crate::folder::{record, trail_h, trail_h_at_12, Folder};
+use std::ffi::OsStr;
+use std::fs::OpenOptions;
+use std::os::unix::ffi::OsStrExt;
+use std::process::Command;
 
-fn with_h() -> Folder {
-    let folder = Folder::new();
-    folder.put("h", trail_h());
-    folder
-}
+use crate::folder::{record, trail_h, trail_h_at_12, Folder, PROGRAM};
+
+const NEVER: &str = "never thinned: this is the trail as the cart reported it";
 
 const LISTING: &str = "trail 4 never\nfix 0 0 0\nfix 10 20 0\nfix 20 20 0\nfix 30 0 0\nend\n";
 
 #[test]
 fn list_prints_the_fixes() {
-    let folder = with_h();
+    let folder = Folder::with_h();
     folder.run(&["list", "h"]).says(LISTING);
     folder.run_with(&["list", "-"], &trail_h()).says(LISTING);
     folder.run(&["list", "--json", "h"]).says(
@@ -21,17 +22,26 @@ fn list_prints_the_fixes() {
 }
 
 #[test]
-fn list_takes_bytes_after_the_record() {
-    let folder = Folder::new();
-    let mut bytes = trail_h();
-    bytes.extend([7; 100_000]);
-    folder.put("h", bytes);
+fn what_follows_a_record_is_not_read() {
+    let folder = Folder::with_h();
+    // without end, and longer than any text may be
+    let endless = "(cat h; cat /dev/zero) | \"$@\"";
+    folder.run_in_shell(endless, &["list", "-"]).says(LISTING);
+    let long = OpenOptions::new()
+        .append(true)
+        .open(folder.path().join("h"));
+    long.expect("a file").set_len(1 << 32).expect("a length");
     folder.run(&["list", "h"]).says(LISTING);
+    folder
+        .run(&["check", "h"])
+        .says("h: fixes 4, seconds 0 to 30, mark never\n");
+    let zeros = folder.run(&["list", "/dev/zero"]);
+    zeros.fails(1, "/dev/zero: refused 2: The kind isn't 1.");
 }
 
 #[test]
 fn check_tells_of_every_file() {
-    let folder = with_h();
+    let folder = Folder::with_h();
     folder.put("one", record(&[(7, -1, 2)]));
     folder.run(&["check", "h", "one"]).says(
         "h: fixes 4, seconds 0 to 30, mark never\none: fixes 1, seconds 7 to 7, mark never\n",
@@ -46,15 +56,16 @@ fn place_answers_rounded_and_exactly() {
     let folder = Folder::new();
     // document 01's trail k
     folder.put("k", record(&[(0, 0, 0), (10, 5, -5)]));
-    folder
-        .run(&["place", "k", "1.000"])
-        .says("place 1 0\nexact 5000/10000 -5000/10000\n");
-    folder
-        .run(&["place", "k", "10"])
-        .says("place 5 -5\nexact 50000/10000 -50000/10000\n");
-    folder.run(&["place", "--json", "k", "0.5"]).says(
-        "{\"file\":\"k\",\"x\":0,\"y\":0,\"exact\":{\"x\":2500,\"y\":-2500,\"denominator\":10000}}\n",
-    );
+    folder.run(&["place", "k", "1.000"]).says(&format!(
+        "place 1 0\nexact 5000/10000 -5000/10000\n{NEVER}\n"
+    ));
+    folder.run(&["place", "k", "10"]).says(&format!(
+        "place 5 -5\nexact 50000/10000 -50000/10000\n{NEVER}\n"
+    ));
+    folder.run(&["place", "--json", "k", "0.5"]).says(&format!(
+        "{{\"file\":\"k\",\"x\":0,\"y\":0,\"exact\":{{\"x\":2500,\"y\":-2500,\"denominator\":10000}},\
+         \"mark\":null,\"means\":\"{NEVER}\"}}\n"
+    ));
 }
 
 #[test]
@@ -66,45 +77,92 @@ fn cross_answers_the_earliest_time() {
         let box_l = ["cross", "l", "--box", "33", "40", "-5", "5", "--window"];
         folder.run(&[&box_l, &window[..], more].concat())
     };
-    ask(["3600", "3610"], &["--json"]).says(
-        "{\"file\":\"l\",\"crosses\":true,\"numerator\":330,\"denominator\":100,\"first\":3600}\n",
+    let mark = format!("\"mark\":null,\"means\":\"{NEVER}\"");
+    ask(["3600", "3610"], &["--json"]).says(&format!(
+        "{{\"file\":\"l\",\"crosses\":true,\"numerator\":330,\"denominator\":100,\"first\":3600,{mark}}}\n",
+    ));
+    let says = |window, answer| ask(window, &[]).says(&format!("{answer}; {NEVER}\n"));
+    let after = "seconds after the first fix";
+    says(
+        ["3600", "3610"],
+        format!("yes, 330/100 {after}, at 3603.300"),
     );
-    ask(["3600", "3610"], &[]).says("yes, 330/100 seconds after the first fix, at 3603.300\n");
-    ask(["3604", "3610"], &[]).says("yes, 4/1 seconds after the first fix, at 3604.000\n");
-    ask(["3605", "3610"], &[]).says("no\n");
-    ask(["3605", "3610"], &["--json"]).says("{\"file\":\"l\",\"crosses\":false}\n");
+    says(["3604", "3610"], format!("yes, 4/1 {after}, at 3604.000"));
+    says(["3605", "3610"], "no".into());
+    ask(["3605", "3610"], &["--json"])
+        .says(&format!("{{\"file\":\"l\",\"crosses\":false,{mark}}}\n"));
+}
+
+/// The sentence that answers of h aged at 12 end with: for a place, a yes and a no.
+#[test]
+fn answers_of_a_thinned_trail_say_how_sure_they_are() {
+    let folder = Folder::new();
+    let mut aged = trail_h_at_12();
+    folder.put("aged", &aged);
+    let ask = |words: &str| folder.run(&words.split(' ').collect::<Vec<_>>());
+    let place = "thinned at 12 cm: at that moment the original was within 12 cm of the exact place";
+    ask("place aged 20").says(&format!(
+        "place 10 0\nexact 200000/20000 0/20000\n{place}\n"
+    ));
+    ask("place aged 20 --json").says(&format!(
+        "{{\"file\":\"aged\",\"x\":10,\"y\":0,\"exact\":{{\"x\":200000,\"y\":0,\"denominator\":20000}},\
+         \"mark\":12,\"means\":\"{place}\"}}\n"
+    ));
+    let yes = "thinned at 12 cm: at that moment it was in the box or within 12 cm of it, \
+        and if it was in the box earlier in the window, it was within 12 cm of an edge";
+    ask("cross aged --box 5 10 -1 1 --window 0 30").says(&format!(
+        "yes, 50/20 seconds after the first fix, at 2.500; {yes}\n"
+    ));
+    let no = "thinned at 12 cm: if it was in the box then, it was within 12 cm of an edge";
+    ask("cross aged --box 18 22 -1 1 --window 15 30").says(&format!("no; {no}\n"));
+    ask("cross aged --box 18 22 -1 1 --window 15 30 --json").says(&format!(
+        "{{\"file\":\"aged\",\"crosses\":false,\"mark\":12,\"means\":\"{no}\"}}\n"
+    ));
+    aged[6] = 0;
+    folder.put("aged", aged);
+    let same = "thinned at 0 cm: the trail as the cart reported it says the same";
+    ask("place aged 30").says(&format!("place 0 0\nexact 0/20000 0/20000\n{same}\n"));
+    ask("cross aged --box 18 22 -1 1 --window 15 30").says(&format!("no; {same}\n"));
 }
 
 #[test]
-fn age_in_place_keeps_the_bytes_after_the_kept_fixes() {
-    let folder = with_h();
-    let answer = "h: kept 3 of 4 fixes, measured 3, mark 12\n";
+fn an_aged_file_has_nothing_of_the_old_records_rest() {
+    let folder = Folder::with_h();
+    let answer = "h: kept 3 of 4 fixes, measured 3, mark 12, freed 8 bytes\n";
     folder.run(&["age", "--tolerance", "12", "h"]).says(answer);
     assert_eq!(folder.get("h"), trail_h_at_12());
-    let mut long = trail_h();
-    long.extend(b"what stands after the record");
-    folder.put("h", &long);
-    folder.run(&["age", "--tolerance", "12", "h"]).says(answer);
-    assert_eq!(folder.get("h"), [&trail_h_at_12(), &long[42..]].concat());
-    assert_eq!(folder.names(), ["h"]);
+    // and all that followed it: a little, and more than a record may have
+    for length in [1, 28, 100_000] {
+        let after: Vec<u8> = (0..length).map(|k| (k % 251) as u8).collect();
+        folder.put("h", [trail_h(), after.clone()].concat());
+        let aged = [trail_h_at_12(), after].concat();
+        let into = ["age", "--tolerance", "12", "h", "-o"];
+        let ran = folder.run(&[&into[..], &["-"]].concat());
+        assert!((ran.status, ran.out) == (Some(0), aged.clone()));
+        folder.run(&[&into[..], &["new"]].concat()).says(answer);
+        assert!(folder.get("new") == aged);
+        folder.run(&["age", "--tolerance", "12", "h"]).says(answer);
+        assert!(folder.get("h") == aged);
+    }
+    assert_eq!(folder.names(), ["h", "new"]);
 }
 
 #[test]
 fn age_by_days_takes_the_tables_tolerance() {
-    let folder = with_h();
+    let folder = Folder::with_h();
     folder
         .run(&["age", "--days", "1", "h"])
-        .says("h: kept 4 of 4 fixes, measured 0, mark never\n");
+        .says("h: kept 4 of 4 fixes, measured 0, mark never, freed 0 bytes\n");
     assert_eq!(folder.get("h"), trail_h());
-    folder
-        .run(&["age", "--json", "--days", "7", "h"])
-        .says("{\"file\":\"h\",\"before\":4,\"count\":2,\"mark\":25,\"measured\":2}\n");
+    folder.run(&["age", "--json", "--days", "7", "h"]).says(
+        "{\"file\":\"h\",\"before\":4,\"count\":2,\"mark\":25,\"measured\":2,\"freed\":16}\n",
+    );
 }
 
 #[test]
 fn age_into_another_file_leaves_the_first() {
-    let folder = with_h();
-    let answer = "h: kept 3 of 4 fixes, measured 3, mark 12\n";
+    let folder = Folder::with_h();
+    let answer = "h: kept 3 of 4 fixes, measured 3, mark 12, freed 8 bytes\n";
     let words = ["age", "--tolerance", "12", "h", "-o"];
     folder.run(&[&words[..], &["new"]].concat()).says(answer);
     assert_eq!(folder.get("new"), trail_h_at_12());
@@ -124,7 +182,8 @@ fn age_works_between_pipes() {
     let words = ["age", "--tolerance", "12", "-", "-o", "-"];
     let ran = folder.run_with(&words, &trail_h());
     assert_eq!((ran.status, ran.out), (Some(0), trail_h_at_12()));
-    assert_eq!(ran.err, "");
+    let answer = "standard input: kept 3 of 4 fixes, measured 3, mark 12, freed 8 bytes\n";
+    assert_eq!(ran.err, answer);
 }
 
 const CALLS: &str = "# two that thin, one for nothing, one refused\n\
@@ -132,7 +191,7 @@ const CALLS: &str = "# two that thin, one for nothing, one refused\n\
 
 #[test]
 fn replay_answers_each_call_and_leaves_the_file() {
-    let folder = with_h();
+    let folder = Folder::with_h();
     folder.put("calls", CALLS);
     folder.run(&["replay", "h", "calls"]).says(
         "tolerance 12: kept 3, measured 3\n\
@@ -148,7 +207,7 @@ fn replay_answers_each_call_and_leaves_the_file() {
 
 #[test]
 fn replay_answers_programs() {
-    let folder = with_h();
+    let folder = Folder::with_h();
     let calls = b"days 1\ntolerance 32001\ntolerance 25";
     folder
         .run_with(&["replay", "--json", "h", "-"], calls)
@@ -160,14 +219,37 @@ fn replay_answers_programs() {
         );
 }
 
+/// Names that look like options, have quotes, steer a terminal, or aren't UTF-8: for people, and in JSON.
 #[test]
-fn names_with_dashes_and_quotes_are_names() {
+fn every_name_is_a_name() {
     let folder = Folder::new();
-    folder.put("-a\"b\n", record(&[(7, -1, 2)]));
-    folder
-        .run(&["check", "--", "-a\"b\n"])
-        .says("-a\"b\\n: fixes 1, seconds 7 to 7, mark never\n");
-    folder
-        .run(&["check", "--json", "--", "-a\"b\n"])
-        .says("{\"file\":\"-a\\\"b\\u000a\",\"count\":1,\"first\":7,\"last\":7,\"mark\":null}\n");
+    let names: [(&[u8], &str, &str); 6] = [
+        (b"-a\"b\n", "-a\"b\\n", "-a\\\"b\\u000a"),
+        (b"--json", "--json", "--json"),
+        (b"--help", "--help", "--help"),
+        (b"a\xff\x1b[2J", "a\\xff\\u{1b}[2J", "a\\udcff\\u001b[2J"),
+        (
+            "é\u{202e}\u{9b}".as_bytes(),
+            "é\\u{202e}\\u{9b}",
+            "é\\u202e\\u009b",
+        ),
+        (b"a\\n", "a\\\\n", "a\\\\n"),
+    ];
+    for (name, people, json) in names {
+        let name = OsStr::from_bytes(name);
+        std::fs::write(folder.path().join(name), record(&[(7, -1, 2)])).expect("a file");
+        let check = |options: &[&str]| {
+            let mut command = Command::new(PROGRAM);
+            command.arg("check").args(options).arg("--").arg(name);
+            folder.finish(&mut command, b"")
+        };
+        check(&[]).says(&format!("{people}: fixes 1, seconds 7 to 7, mark never\n"));
+        check(&["--json"]).says(&format!(
+            "{{\"file\":\"{json}\",\"count\":1,\"first\":7,\"last\":7,\"mark\":null}}\n"
+        ));
+    }
+    let ran = folder.run_with(&["check", "--", "-"], &trail_h());
+    ran.fails(3, "./-: No such file or directory (os error 2)");
+    let ran = folder.run_with(&["check", "--", "--box"], &trail_h());
+    ran.fails(3, "--box: No such file or directory (os error 2)");
 }

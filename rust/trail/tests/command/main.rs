@@ -4,7 +4,9 @@
 mod answers;
 mod folder;
 mod pictures;
+mod readme;
 mod refusals;
+mod sharing;
 mod storing;
 mod texts;
 mod usage;

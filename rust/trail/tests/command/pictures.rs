@@ -6,8 +6,7 @@ use trails_tests::shapes::curve;
 use crate::folder::{record, trail_h, trail_h_at_12, Folder};
 
 fn with_h() -> Folder {
-    let folder = Folder::new();
-    folder.put("h", trail_h());
+    let folder = Folder::with_h();
     folder.put("aged", trail_h_at_12());
     folder
 }

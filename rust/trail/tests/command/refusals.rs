@@ -27,6 +27,15 @@ fn refused(number: usize) -> String {
     format!("refused {number}: {}", SENTENCES[number - 1])
 }
 
+/// What follows a refusal's sentence: the count, where it is about that.
+fn count_told(number: u8, bytes: &[u8]) -> String {
+    let count = || u16::from_le_bytes([bytes[8], bytes[9]]);
+    match number {
+        3 => format!(" The count is {}.", count()),
+        _ => String::new(),
+    }
+}
+
 /// Every command that reads a trail, on the file `t`.
 const READERS: [&[&str]; 9] = [
     &["list", "t"],
@@ -54,7 +63,7 @@ fn every_fault_of_a_record_is_named_by_every_command() {
             let bytes = draft.bytes();
             assert_eq!(plain::read(&bytes).err(), Some(fault));
             folder.put("t", &bytes);
-            let message = format!("t: {}", refused(fault.into()));
+            let message = format!("t: {}{}", refused(fault.into()), count_told(fault, &bytes));
             for words in READERS.iter().chain([&cross.as_slice()]) {
                 folder.run(words).fails(1, &message);
                 assert!(folder.get("t") == bytes, "{words:?}");
@@ -74,7 +83,30 @@ fn refusals_are_told_to_programs_too() {
     let sentence = SENTENCES[0];
     let line = format!("{{\"file\":\"t\",\"refused\":1,\"sentence\":\"{sentence}\"}}\n");
     assert_eq!(ran.text(), line);
+    // and what a message says after the sentence
+    folder.put("h", trail_h());
+    let mut none = trail_h();
+    none[8] = 0;
+    folder.put("none", none);
+    for (words, facts) in [
+        ("list --json none", "\"count\":0"),
+        ("place --json h 31", "\"first\":0,\"last\":30"),
+        (
+            "cross --json h --box 0 1 0 1 --window 0 31",
+            "\"first\":0,\"last\":30",
+        ),
+    ] {
+        let ran = folder.run(&words.split(' ').collect::<Vec<_>>());
+        assert!(
+            ran.text().ends_with(&format!(".\",{facts}}}\n")),
+            "{}",
+            ran.text()
+        );
+    }
 }
+
+/// What follows a refusal that is about the times of h.
+const SECONDS: &str = "The trail has seconds 0 to 30.";
 
 fn of_h(words: &str) -> Ran {
     let folder = Folder::new();
@@ -94,14 +126,14 @@ fn tolerances_above_32000_are_refused() {
 
 #[test]
 fn moments_outside_the_trail_are_refused() {
-    let message = format!("h: {}", refused(12));
+    let message = format!("h: {} {SECONDS}", refused(12));
     of_h("place h 30.001").fails(1, &message);
     of_h("place h 4294967295").fails(1, &message);
 }
 
 #[test]
 fn windows_and_boxes_are_refused() {
-    let window = format!("h: {}", refused(13));
+    let window = format!("h: {} {SECONDS}", refused(13));
     of_h("cross h --box 0 1 0 1 --window 5 4").fails(1, &window);
     of_h("cross h --box 0 1 0 1 --window 0 31").fails(1, &window);
     of_h("cross h --box 1 0 0 1 --window 0 31").fails(1, &window);
@@ -138,9 +170,12 @@ fn noise_is_answered_like_the_plain_version() {
         folder.put("t", &bytes);
         let number = plain::read(&bytes).expect_err("noise is no trail");
         for words in READERS {
-            folder
-                .run(words)
-                .fails(1, &format!("t: {}", refused(number.into())));
+            let message = format!(
+                "t: {}{}",
+                refused(number.into()),
+                count_told(number, &bytes)
+            );
+            folder.run(words).fails(1, &message);
             assert!(folder.get("t") == bytes, "{words:?}");
         }
     }

@@ -1,7 +1,7 @@
 //! No trail is ever lost: full disks, folders and files that can't be written, interrupted runs, many files.
 
 use std::fs::{self, Permissions};
-use std::os::unix::fs::{symlink, MetadataExt, PermissionsExt};
+use std::os::unix::fs::{MetadataExt, PermissionsExt};
 use std::os::unix::process::CommandExt;
 use std::process::{Command, Stdio};
 use std::time::Duration;
@@ -13,12 +13,6 @@ use crate::folder::{trail_h, trail_h_at_12, Folder, Ran, PROGRAM};
 
 const AGE: [&str; 4] = ["age", "--tolerance", "12", "h"];
 
-fn with_h() -> Folder {
-    let folder = Folder::new();
-    folder.put("h", trail_h());
-    folder
-}
-
 fn set_mode(folder: &Folder, name: &str, mode: u32) {
     let path = folder.path().join(name);
     fs::set_permissions(path, Permissions::from_mode(mode)).expect("it is ours");
@@ -26,7 +20,7 @@ fn set_mode(folder: &Folder, name: &str, mode: u32) {
 
 #[test]
 fn a_full_disk_is_told() {
-    let folder = with_h();
+    let folder = Folder::with_h();
     let told = |ran: Ran, file: &str| {
         ran.fails(3, &format!("{file}: No space left on device (os error 28)"));
         assert_eq!(folder.names(), ["h"]);
@@ -48,7 +42,7 @@ fn a_full_disk_is_told() {
 /// On a disk of 32 KiB, which a user may have in a namespace of their own where the system lets them.
 #[test]
 fn aging_in_place_on_a_full_disk_leaves_the_trail() {
-    let folder = with_h();
+    let folder = Folder::with_h();
     let line = "mkdir disk && mount -t tmpfs -o size=32k none disk || exit 99
         cp h disk/h && head -c 32768 /dev/zero > disk/rest 2> rest.log
         cd disk && \"$@\" > answer; echo $? > ../status; cmp h ../h && ls > ../names";
@@ -68,7 +62,7 @@ fn aging_in_place_on_a_full_disk_leaves_the_trail() {
 
 #[test]
 fn a_write_that_fails_leaves_the_trail_and_nothing_beside_it() {
-    let folder = with_h();
+    let folder = Folder::with_h();
     let limited = "trap '' XFSZ; ulimit -f 0; exec \"$@\"";
     let ran = folder.run_in_shell(limited, &AGE);
     ran.fails(3, "h: File too large (os error 27)");
@@ -78,7 +72,7 @@ fn a_write_that_fails_leaves_the_trail_and_nothing_beside_it() {
 
 #[test]
 fn a_run_that_dies_while_it_writes_leaves_the_trail() {
-    let folder = with_h();
+    let folder = Folder::with_h();
     // the first byte that is written kills it
     let ran = folder.run_in_shell("ulimit -c 0; ulimit -f 0; exec \"$@\"", &AGE);
     assert_eq!(ran.status, None);
@@ -88,7 +82,7 @@ fn a_run_that_dies_while_it_writes_leaves_the_trail() {
     // and the next run isn't disturbed by what that one left
     folder
         .run(&AGE)
-        .says("h: kept 3 of 4 fixes, measured 3, mark 12\n");
+        .says("h: kept 3 of 4 fixes, measured 3, mark 12, freed 8 bytes\n");
     assert_eq!(folder.get("h"), trail_h_at_12());
 }
 
@@ -122,11 +116,7 @@ fn runs_killed_at_any_moment_leave_whole_trails() {
 
 /// Runs the command as somebody whom permissions bind, which they don't the superuser.
 fn run_bound(folder: &Folder, words: &[&str]) -> Ran {
-    let program = folder.path().join("program");
-    // copied by another process: a file that this one writes may still be open in what other tests have just started,
-    // and can't be run then
-    let copied = Command::new("cp").arg(PROGRAM).arg(&program).status();
-    assert!(copied.is_ok_and(|status| status.success()));
+    let program = folder.copied_program();
     let mut command = Command::new(&program);
     command.args(words).current_dir(folder.path());
     if fs::metadata("/proc/self").is_ok_and(|me| me.uid() == 0) {
@@ -139,14 +129,14 @@ fn run_bound(folder: &Folder, words: &[&str]) -> Ran {
 
 #[test]
 fn in_a_folder_that_cannot_be_written_the_trail_stays() {
-    let folder = Folder::new();
+    let folder = Folder::with_h();
     fs::create_dir(folder.path().join("shut")).expect("a folder");
     folder.put("shut/h", trail_h());
     set_mode(&folder, "shut/h", 0o666);
     set_mode(&folder, "shut", 0o555);
     for words in [
         &["age", "--tolerance", "12", "shut/h"][..],
-        &["age", "--tolerance", "12", "shut/h", "-o", "shut/h"],
+        &["age", "--tolerance", "12", "h", "-o", "shut/h"],
     ] {
         let ran = run_bound(&folder, words);
         ran.fails(3, "shut/h: Permission denied (os error 13)");
@@ -165,7 +155,7 @@ fn in_a_folder_that_cannot_be_written_the_trail_stays() {
 
 #[test]
 fn a_trail_that_is_protected_from_writing_isnt_aged() {
-    let folder = with_h();
+    let folder = Folder::with_h();
     set_mode(&folder, "h", 0o444);
     set_mode(&folder, ".", 0o777);
     let ran = run_bound(&folder, &AGE);
@@ -174,21 +164,6 @@ fn a_trail_that_is_protected_from_writing_isnt_aged() {
     assert_eq!(ran.status, Some(0));
     assert_eq!(folder.get("h"), trail_h());
     assert_eq!(folder.names(), ["h"]);
-}
-
-#[test]
-fn permissions_and_links_stay() {
-    let folder = with_h();
-    set_mode(&folder, "h", 0o640);
-    symlink("h", folder.path().join("link")).expect("a link");
-    let ran = folder.run(&["age", "--tolerance", "12", "link"]);
-    ran.says("link: kept 3 of 4 fixes, measured 3, mark 12\n");
-    let link = fs::symlink_metadata(folder.path().join("link")).expect("it is there");
-    assert!(link.is_symlink());
-    assert_eq!(folder.get("h"), trail_h_at_12());
-    let file = fs::metadata(folder.path().join("h")).expect("it is there");
-    assert_eq!(file.mode() & 0o777, 0o640);
-    assert_eq!(folder.names(), ["h", "link"]);
 }
 
 #[test]
@@ -201,30 +176,41 @@ fn work_goes_on_past_a_refused_file_and_is_summed_up() {
     assert_eq!(ran.status, Some(1));
     assert_eq!(
         ran.text(),
-        "a: kept 3 of 4 fixes, measured 3, mark 12\nc: kept 3 of 4 fixes, measured 3, mark 12\n"
+        "a: kept 3 of 4 fixes, measured 3, mark 12, freed 8 bytes\nc: kept 3 of 4 fixes, measured 3, mark 12, freed 8 bytes\n"
     );
     assert_eq!(
         ran.err,
-        "b: refused 1: The lent bytes are fewer than 10.\n3 files: 2 aged, 1 refused, 0 failed\n"
+        "b: refused 1: The lent bytes are fewer than 10.\n3 files: 2 aged, 1 refused, 0 failed; 16 bytes freed\n"
     );
     assert_eq!(folder.get("b"), b"no trail");
     let ran = folder.run(&["age", "--json", "--days", "90", "a", "missing", "b"]);
     assert_eq!(ran.status, Some(3));
     assert_eq!(
         ran.text(),
-        "{\"file\":\"a\",\"before\":3,\"count\":2,\"mark\":400,\"measured\":1}\n\
+        "{\"file\":\"a\",\"before\":3,\"count\":2,\"mark\":400,\"measured\":1,\"freed\":8}\n\
          {\"file\":\"missing\",\"failed\":\"No such file or directory (os error 2)\"}\n\
          {\"file\":\"b\",\"refused\":1,\"sentence\":\"The lent bytes are fewer than 10.\"}\n"
     );
     assert!(ran
         .err
-        .ends_with("\n3 files: 1 aged, 1 refused, 1 failed\n"));
+        .ends_with("\n3 files: 1 aged, 1 refused, 1 failed; 8 bytes freed\n"));
+}
+
+#[test]
+fn the_longest_name_is_aged() {
+    let folder = Folder::new();
+    let name = "n".repeat(255);
+    folder.put(&name, trail_h());
+    let ran = folder.run(&["age", "--tolerance", "12", &name]);
+    assert_eq!(ran.status, Some(0), "{}", ran.err);
+    assert_eq!(folder.get(&name), trail_h_at_12());
+    assert_eq!(folder.names(), [name]);
 }
 
 /// `script` runs a command at a terminal of its own.
 #[test]
 fn people_at_a_terminal_see_how_far_the_work_is() {
-    let folder = with_h();
+    let folder = Folder::with_h();
     folder.put("t", trail_h());
     let line = "command -v script > /dev/null || exit 99
         script -qec \"$1 age --tolerance 12 h t\" /dev/null";
@@ -234,7 +220,9 @@ fn people_at_a_terminal_see_how_far_the_work_is() {
         return;
     }
     assert!(ran.text().contains("1 of 2 files"), "{}", ran.text());
-    assert!(ran.text().contains("2 files: 2 aged, 0 refused, 0 failed"));
+    assert!(ran
+        .text()
+        .contains("2 files: 2 aged, 0 refused, 0 failed; 16 bytes freed"));
 }
 
 #[test]
@@ -244,5 +232,5 @@ fn the_deepest_trail_is_aged_under_a_small_stack_limit() {
     folder.put("t", plain::record(NEVER, &fixes));
     let words = ["age", "--tolerance", "1", "t"];
     let ran = folder.run_in_shell("ulimit -s 256; exec \"$@\"", &words);
-    ran.says("t: kept 4096 of 4096 fixes, measured 8382465, mark 1\n");
+    ran.says("t: kept 4096 of 4096 fixes, measured 8382465, mark 1, freed 0 bytes\n");
 }

@@ -33,7 +33,7 @@ fn a_bad_line_is_named_with_its_number() {
     let fields = |n| format!("a fix is 'time x y', and here stand {n} fields");
     let number =
         |field, word, range| format!("{field}: '{word}' isn't a whole number from {range}");
-    let (times, places) = ("0 to 4,294,967,295", "-32,768 to 32,767");
+    let (times, places) = ("0 to 4,294,967,295", "-16,000 to 16,000");
     let cases: [(&[u8], usize, String); 11] = [
         (b"1 2", 1, fields(2)),
         (b"# fixes\n\n1 2 3 4\n", 3, fields(4)),
@@ -59,8 +59,14 @@ fn a_refused_list_is_not_stored_and_its_line_is_named() {
     let folder = Folder::new();
     let many: String = (0..4_097).map(|t| format!("{t} 0 0\n")).collect();
     let cases = [
-        ("", "fixes: refused 3: The count is 0 or above 4,096."),
-        (&many, "fixes: refused 3: The count is 0 or above 4,096."),
+        (
+            "",
+            "fixes: refused 3: The count is 0 or above 4,096. The count is 0.",
+        ),
+        (
+            &many,
+            "fixes: refused 3: The count is 0 or above 4,096. The count is 4097.",
+        ),
         (
             "5 0 0\n\n5 0 -16001\n",
             "fixes, line 3: refused 7: Some x or y is outside −16,000 to 16,000.",
@@ -107,10 +113,12 @@ fn a_bad_call_is_named_with_its_number() {
     folder.put("h", trail_h());
     let form = "a call is 'tolerance E' or 'days D'";
     let number = "'65536' isn't a whole number from 0 to 65,535";
+    let tolerance = "'-1' isn't a whole number from 0 to 32,000";
     for (calls, line, what) in [
         ("tolerance 5\nage 5\n", 2, form),
         ("\ndays\n", 2, form),
         ("days 65536\n", 1, number),
+        ("tolerance -1\n", 1, tolerance),
     ] {
         folder.put("calls", calls);
         let ran = folder.run(&["replay", "h", "calls"]);

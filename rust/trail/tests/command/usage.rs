@@ -21,8 +21,12 @@ fn help_is_printed_for_the_command_and_each_of_its_commands() {
         let help = folder.run(&[name, "--help"]);
         assert_eq!((help.status, help.err.as_str()), (Some(0), ""));
         assert!(help.text().starts_with(&format!("usage: trail {name} ")));
-        assert!(help.text().lines().all(|line| line.chars().count() <= 84));
+        assert_eq!(folder.run(&["help", name]).text(), help.text());
+        for line in all.text().lines().chain(help.text().lines()) {
+            assert!(line.chars().count() <= 80, "{line}");
+        }
     }
+    assert_eq!(folder.run(&["help"]).text(), all.text());
 }
 
 /// Words that no command takes. There is a trail `h`.
@@ -108,15 +112,15 @@ fn files_that_cannot_be_read_are_named() {
 }
 
 #[test]
-fn files_above_64_mib_are_turned_away() {
+fn texts_above_64_mib_are_turned_away() {
     let folder = Folder::new();
     let file = fs::File::create(folder.path().join("big")).expect("a file");
     // a file of nothing, which takes no room
     file.set_len((64 << 20) + 1).expect("a length");
-    let ran = folder.run(&["list", "big"]);
-    ran.fails(3, "big: it has more than 64 MiB");
-    let ran = folder.run(&["list", "/dev/zero"]);
-    ran.fails(3, "/dev/zero: it has more than 64 MiB");
+    for name in ["big", "/dev/zero"] {
+        let ran = folder.run(&["write", name, "-o", "new"]);
+        ran.fails(3, &format!("{name}: it has more than 64 MiB"));
+    }
 }
 
 #[test]
@@ -126,7 +130,125 @@ fn a_reader_that_hangs_up_is_no_crash() {
     let words = ["write", "-", "-o", "t"];
     folder.run_with(&words, many.as_bytes()).says("");
     let ran = folder.run_in_shell("\"$@\" | head -n 1", &["list", "t"]);
-    ran.says("trail 4096 never\n");
+    assert_eq!(ran.text(), "trail 4096 never\n");
+    assert_eq!(ran.err, "standard output: Broken pipe (os error 32)\n");
+}
+
+/// One that is thrown away on purpose, by a descriptor for reading and writing too, is no closed one.
+#[test]
+fn a_closed_output_is_told() {
+    let folder = Folder::with_h();
+    for words in [
+        &["list", "h"][..],
+        &["check", "h", "h"],
+        &["place", "h", "5", "--json"],
+        &["place", "h", "31", "--json"],
+        &["age", "--tolerance", "12", "h", "-o", "-"],
+        &["plot", "h", "-o", "-"],
+        &["--help"],
+        &["age", "--tolerance", "12", "h"],
+    ] {
+        let ran = folder.run_in_shell("\"$@\" >&-", words);
+        assert_eq!(ran.status, Some(3), "{words:?}");
+        assert!(
+            ran.err.ends_with("standard output: it is closed\n"),
+            "{}",
+            ran.err
+        );
+        let ran = folder.run_in_shell("\"$@\" >&- 2>&-", words);
+        assert_eq!(ran.status, Some(3), "{words:?}");
+    }
+    for away in ["> /dev/null", "1<> /dev/null"] {
+        let line = format!("\"$@\" {away}");
+        folder.run_in_shell(&line, &["list", "h"]).says("");
+    }
+}
+
+/// What is wrong, in the words that the message has before it names the help.
+#[test]
+fn messages_name_what_is_missing_and_what_may_stand() {
+    let folder = Folder::with_h();
+    let edges = "X0 X1 Y0 Y1";
+    for (words, what) in [
+        (
+            "cross h --window 0 1 --box 0 1 0",
+            format!("--box takes {edges}, and Y1 is missing"),
+        ),
+        (
+            "cross h --box 0 --window 0 1",
+            format!("--box takes {edges}, and X1 Y0 Y1 is missing"),
+        ),
+        (
+            "cross h --box=0,1 --window 0 1",
+            format!("--box takes {edges}, and Y0 Y1 is missing"),
+        ),
+        (
+            "cross h --box 0 1 0 1 --window 0",
+            "--window takes S E, and E is missing".into(),
+        ),
+        (
+            "cross h --box=0,1,0,1,5 --window 0 1",
+            format!("--box takes {edges} and no more"),
+        ),
+        ("cross h --box 0 1 0 1", "--window S E is missing".into()),
+        ("cross h --window 0 1", format!("--box {edges} is missing")),
+        (
+            "cross h --box 0 1 -99999999999 1 --window 0 1",
+            "--box, Y0: '-99999999999' isn't a whole number from -16,000 to 16,000".into(),
+        ),
+        (
+            "cross h --box 0 1 0 1 --window 0 -1",
+            "--window, E: '-1' isn't a whole number from 0 to 4,294,967,295".into(),
+        ),
+        (
+            "age --tolerance 65536 h",
+            "--tolerance, E: '65536' isn't a whole number from 0 to 32,000".into(),
+        ),
+        (
+            "age --days=x h",
+            "--days, D: 'x' isn't a whole number from 0 to 65,535".into(),
+        ),
+        (
+            "age --days 7 h -o",
+            "-o takes OUT, and OUT is missing".into(),
+        ),
+        ("list h --json=1", "--json takes no value".into()),
+        (
+            "place h -1",
+            "'-1' isn't a whole number from 0 to 4,294,967,295".into(),
+        ),
+    ] {
+        let ran = folder.run(&words.split(' ').collect::<Vec<_>>());
+        let name = words.split(' ').next().expect("a word");
+        ran.fails(
+            2,
+            &format!("trail: {name}: {what}; try 'trail {name} --help'"),
+        );
+    }
+    let ran = folder.run(&["help", "fly"]);
+    ran.fails(2, "trail: there is no command 'fly'; try 'trail --help'");
+}
+
+#[test]
+fn values_may_stand_after_an_equals_sign() {
+    let folder = Folder::with_h();
+    let pairs = [
+        (
+            "cross h --box=5,10,-1,1 --window=0,30",
+            "cross h --box 5 10 -1 1 --window 0 30",
+        ),
+        ("age --tolerance=12 h -o=-", "age --tolerance 12 h -o -"),
+        ("plot h --original=h -o=-", "plot h --original h -o -"),
+    ];
+    for (joined, apart) in pairs {
+        let run = |words: &str| folder.run(&words.split(' ').collect::<Vec<_>>());
+        let (joined, apart) = (run(joined), run(apart));
+        assert_eq!(joined.status, Some(0), "{}", joined.err);
+        assert_eq!(joined.out, apart.out);
+    }
+    let into = ["age", "--days=7", "h", "-o=a=b,c"];
+    assert_eq!(folder.run(&into).status, Some(0));
+    assert_eq!(folder.names(), ["a=b,c", "h"]);
 }
 
 #[test]
@@ -142,8 +264,11 @@ fn words_that_are_not_utf8_are_no_crash() {
 }
 
 /// Words that may follow each other in any way.
-const WORDS: [&str; 24] = [
+const WORDS: [&str; 27] = [
     "--json",
+    "--force",
+    "--days=3",
+    "--box=0,1,0,1",
     "--tolerance",
     "--days",
     "--box",
@@ -174,7 +299,7 @@ fn any_words_are_answered_with_a_status() {
     let folder = Folder::new();
     let mut random = Random::new(17);
     let mut ends = [0; 4];
-    for _ in 0..400 {
+    for _ in 0..2_000 {
         folder.put("h", trail_h());
         let mut words = vec![random.pick(&NAMES)];
         let more = random.between(0, 7);
