@@ -182,7 +182,7 @@ fn nobody_reads_the_new_file_who_could_not_read_the_old_one() {
     let h = folder.path().join("h");
     fs::set_permissions(&h, Permissions::from_mode(0o640)).expect("it is ours");
     let done = AtomicBool::new(false);
-    let seen = thread::scope(|scope| {
+    let (runs, seen) = thread::scope(|scope| {
         let watch = scope.spawn(|| {
             let mut modes = BTreeSet::new();
             while !done.load(Ordering::Relaxed) {
@@ -193,13 +193,15 @@ fn nobody_reads_the_new_file_who_could_not_read_the_old_one() {
             }
             modes
         });
-        for _ in 0..100 {
+        let run = |_| {
             folder.put("h", [trail_h(), vec![7; 1 << 20]].concat());
-            folder.run_in_shell("umask 0; \"$@\"", &AGE).says(AGED);
-        }
+            folder.run_in_shell("umask 0; \"$@\"", &AGE)
+        };
+        let runs: Vec<Ran> = (0..100).map(run).collect();
         done.store(true, Ordering::Relaxed);
-        watch.join().expect("it ends")
+        (runs, watch.join().expect("it ends"))
     });
+    runs.iter().for_each(|ran| ran.says(AGED));
     assert_eq!(seen, BTreeSet::from([0o600, 0o640]));
 }
 
