@@ -22,19 +22,20 @@ pub const COMMAND: Command = Command {
 const HELP: &str = "\
 usage: trail age --tolerance E [--json] FILE...
        trail age --days D [--json] FILE...
-       trail age (--tolerance E | --days D) FILE -o OUT
+       trail age (--tolerance E | --days D) [--json] FILE -o OUT
 
 Thins each trail and puts it in its file's place: the new record, and what
 followed the old one. The fixes that were thinned away are gone, and the file
 is shorter by the bytes that were freed. Goes on past a refused file.
 
-The new file is written beside the old one, flushed, and given its name. Group
-and permissions stay, and the owner if the superuser ages it; access lists and
-other attributes don't. The file is locked from its reading on, so that agings
-at once are made one after the other. A refused or failed aging leaves the old
-file byte for byte, and so does one that can't keep its group. An interrupted
-one may leave a FILE.tmp-NUMBER beside it, which can be deleted. Of a file with
-several names only the given one is aged.
+The new file is written beside the old one, flushed, and given its name. Group,
+permissions and access list stay; the owner stays if that or the superuser ages
+it, and else the caller becomes it. The file is locked from its reading on, so
+that agings at once are made one after the other; one that waits ten seconds
+for it fails. A refused or failed aging leaves the old file byte for byte, and
+so does one that can't keep its group. An interrupted one may leave a
+FILE.tmp-NUMBER beside it, which can be deleted. Of a file with several names
+only the given one is aged.
 
   --tolerance E  the tolerance in centimetres, 0 to 32,000
   --days D       the tolerance of a table: from day 2, 10; from day 7, 25;
@@ -91,7 +92,7 @@ fn age_in_place(name: &OsStr, aging: Aging) -> Result<Aged, Failure> {
 fn age_into(name: &OsStr, aging: Aging, to: &OsStr) -> Result<Aged, Failure> {
     let (bytes, rest) = files::begin(name)?;
     let aged = age(name, bytes, aging)?;
-    store(to, name, aged.bytes.chain(rest))?;
+    store(to, &[name], aged.bytes.chain(rest))?;
     Ok(aged)
 }
 
@@ -122,7 +123,7 @@ fn run(arguments: &Arguments) -> Result<Status, Failure> {
     }
     let aged = age_into(name, aging, to)?;
     match to == "-" {
-        // the trail itself is there
+        // the standard output has the trail
         true => output::message(&text(name, &aged)),
         false => answer(name, &aged, json)?,
     }
@@ -142,7 +143,6 @@ fn age_all<N: AsRef<OsStr>>(names: &[N], aging: Aging, json: bool) -> Result<Sta
         ends.push(match aged {
             Ok(aged) => {
                 freed += aged.freed;
-                // a trail is aged whether or not its answer is heard
                 unheard = answer(name, &aged, json).err().or(unheard);
                 Status::Done
             }
@@ -173,18 +173,28 @@ fn text(name: &OsStr, aged: &Aged) -> String {
     format!("{file}: {kept}, measured {measured}, mark {mark}, freed {freed} bytes")
 }
 
+/// Tells what an aging did: it is done whether or not that is heard, so people are told in any case.
 fn answer(name: &OsStr, aged: &Aged, json: bool) -> Result<(), Failure> {
-    if !json {
-        return output::print(&format!("{}\n", text(name, aged)));
+    let text = text(name, aged);
+    let told = match json {
+        true => output::print_json(fields(name, aged)),
+        false => output::print(&format!("{text}\n")),
+    };
+    if told.is_err() {
+        output::message(&text);
     }
-    output::print_json(Json::Object(vec![
-        ("file", Json::name(name)),
+    told
+}
+
+fn fields(name: &OsStr, aged: &Aged) -> Json {
+    Json::Object(vec![
+        ("file", Json::text(name)),
         ("before", Json::Whole(aged.before.into())),
         ("count", Json::Whole(aged.count.into())),
         ("mark", Json::mark(aged.mark)),
         ("measured", Json::Whole(aged.measured.into())),
         ("freed", Json::Whole(aged.freed as i64)),
-    ]))
+    ])
 }
 
 /// A line that says how far the work is, for people at a terminal.

@@ -6,10 +6,12 @@ use std::os::unix::ffi::OsStrExt;
 use std::path::Path;
 use std::str::FromStr;
 
-use trails::{Area, Moment, Window};
+use trails::{Area, Window};
 
 use crate::failure::{Failure, Status};
-use crate::words;
+use crate::numbers::whole;
+use crate::options::{is_option, parted, Choice, OPTIONS};
+use crate::{files, words};
 
 /// One of the commands that `trail` has.
 pub struct Command {
@@ -20,117 +22,12 @@ pub struct Command {
     pub run: fn(&Arguments) -> Result<Status, Failure>,
 }
 
-/// The ranges that document 01 has, for messages. A number that the interface takes is refused by the interface alone.
-pub const TOLERANCES: &str = "0 to 32,000";
-pub const DAYS: &str = "0 to 65,535";
-pub const PLACES: &str = "-16,000 to 16,000";
-pub const SECONDS: &str = "0 to 4,294,967,295";
-
-/// An option: its name, the names of its values, and the range of each, if they are numbers.
-struct Choice {
-    name: &'static str,
-    values: &'static [&'static str],
-    range: &'static str,
-}
-
-const fn choice(
-    name: &'static str,
-    values: &'static [&'static str],
-    range: &'static str,
-) -> Choice {
-    Choice {
-        name,
-        values,
-        range,
-    }
-}
-
-static OPTIONS: [Choice; 8] = [
-    choice("--json", &[], ""),
-    choice("--force", &[], ""),
-    choice("--tolerance", &["E"], TOLERANCES),
-    choice("--days", &["D"], DAYS),
-    choice("--box", &["X0", "X1", "Y0", "Y1"], PLACES),
-    choice("--window", &["S", "E"], SECONDS),
-    choice("--original", &["FILE"], ""),
-    choice("-o", &["OUT"], ""),
-];
-
-impl Choice {
-    /// Its values where they are the next words. An option is no value, so that a missing one is seen.
-    fn next<'a>(&self, words: &mut Peekable<impl Iterator<Item = &'a OsStr>>) -> Vec<OsString> {
-        let next = |_: &&str| words.next_if(|word| !is_option(word));
-        let values = self.values.iter().map_while(next);
-        values.map(OsStr::to_os_string).collect()
-    }
-
-    /// Its values where they stand after a `=`, with commas between several. A file's name may have commas.
-    fn parts(&self, joined: &OsStr) -> Vec<OsString> {
-        let several = self.values.len() > 1;
-        let parts = joined.as_bytes().split(|byte| several && *byte == b',');
-        let part = |part| OsStr::from_bytes(part).to_os_string();
-        parts.map(part).collect()
-    }
-
-    /// What is wrong with so many values.
-    fn counts(&self, given: usize) -> Result<(), String> {
-        let (name, all) = (self.name, self.values.join(" "));
-        match self.values.get(given..) {
-            None if all.is_empty() => Err(format!("{name} takes no value")),
-            None => Err(format!("{name} takes {all} and no more")),
-            Some([]) => Ok(()),
-            Some(missing) => {
-                let missing = missing.join(" ");
-                Err(format!("{name} takes {all}, and {missing} is missing"))
-            }
-        }
-    }
-}
-
-/// The number that a word has, or what is wrong with the word.
-pub fn whole<N: FromStr>(word: &str, range: &str) -> Result<N, String> {
-    word.parse().map_err(|_| {
-        // a hostile word may be long
-        let start: String = word.chars().take(40).collect();
-        let start = words::harmless(start);
-        format!("'{start}' isn't a whole number from {range}")
-    })
-}
-
-/// The moment that `SECOND` or `SECOND.mmm` has.
-pub fn moment(word: &str) -> Result<Moment, String> {
-    let (second, part) = word.split_once('.').unwrap_or((word, "0"));
-    let digits = part.bytes().all(|byte| byte.is_ascii_digit());
-    if !digits || part.is_empty() || part.len() > 3 {
-        return Err("after the point stand one to three digits".into());
-    }
-    Ok(Moment {
-        second: whole(second, SECONDS)?,
-        thousandths: whole(&format!("{part:0<3}"), "0 to 999")?,
-    })
-}
-
 /// The file of this name, also if it is `-`, which elsewhere is no file.
 fn file_named(word: &OsStr) -> OsString {
     match word == "-" {
         true => Path::new(".").join(word).into_os_string(),
         false => word.to_os_string(),
     }
-}
-
-/// Whether a word is an option: it begins with a dash, and is neither the dash alone nor a number below 0.
-fn is_option(word: &OsStr) -> bool {
-    match word.as_bytes() {
-        [b'-', next, ..] => !next.is_ascii_digit(),
-        _ => false,
-    }
-}
-
-/// A word's part before its first `=`, and the part after it.
-fn parted(word: &OsStr) -> (&OsStr, Option<&OsStr>) {
-    let mut parts = word.as_bytes().splitn(2, |byte| *byte == b'=');
-    let mut part = || parts.next().map(OsStr::from_bytes);
-    (part().unwrap_or(word), part())
 }
 
 pub struct Arguments {
@@ -227,9 +124,16 @@ impl Arguments {
     /// The file that a command stores, which it can't do without.
     pub fn output(&self) -> Result<&OsStr, Failure> {
         let to = self.file("-o");
-        let to = to.ok_or_else(|| self.wrong("-o and a file are missing"))?;
+        let to = to.ok_or_else(|| self.wrong("-o OUT is missing"))?;
+        let to = match to.as_bytes() {
+            b"/dev/stdout" | b"/dev/fd/1" | b"/proc/self/fd/1" => OsStr::new("-"),
+            _ => to,
+        };
         if to == "-" && self.has("--json") {
             return Err(self.wrong("--json and '-o -' both want the standard output"));
+        }
+        if files::is_printed_to(to) {
+            return Err(self.wrong("-o and the standard output are one file"));
         }
         Ok(to)
     }
@@ -272,40 +176,5 @@ impl Arguments {
             return Ok(None);
         };
         Ok(Some(Window { start, end }))
-    }
-}
-
-#[cfg(test)]
-mod tests {
-    use super::*;
-
-    #[test]
-    fn moments_have_up_to_three_digits_after_the_point() {
-        let both = |word| moment(word).map(|moment| (moment.second, moment.thousandths));
-        assert_eq!(both("12"), Ok((12, 0)));
-        assert_eq!(both("12.5"), Ok((12, 500)));
-        assert_eq!(both("12.05"), Ok((12, 50)));
-        assert_eq!(both("4294967295.999"), Ok((u32::MAX, 999)));
-        for wrong in [
-            "",
-            ".",
-            "12.",
-            "12.0000",
-            "12.+5",
-            "12.5.5",
-            "-1",
-            "12,5",
-            "4294967296",
-        ] {
-            assert!(both(wrong).is_err(), "{wrong}");
-        }
-    }
-
-    #[test]
-    fn wrong_numbers_are_shown_harmlessly() {
-        let what = whole::<u16>("\u{1b}[2J", TOLERANCES).expect_err("no number");
-        assert_eq!(what, "'\\u{1b}[2J' isn't a whole number from 0 to 32,000");
-        let long = whole::<i16>(&"9".repeat(1_000_000), PLACES);
-        assert!(long.is_err_and(|what| what.len() < 100));
     }
 }

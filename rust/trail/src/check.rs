@@ -49,7 +49,7 @@ fn check(name: &OsStr, json: bool) -> Result<(), Failure> {
         return output::print(&format!("{file}: fixes {count}, {times}, mark {mark}\n"));
     }
     output::print_json(Json::Object(vec![
-        ("file", Json::name(name)),
+        ("file", Json::text(name)),
         ("count", Json::Whole(count as i64)),
         ("first", Json::Whole(first.into())),
         ("last", Json::Whole(last.into())),

@@ -70,7 +70,7 @@ fn text(trail: &Trail, crossing: Option<Crossing>) -> String {
 
 fn answer(trail: &Trail, crossing: Option<Crossing>, means: String) -> Json {
     let mut fields = vec![
-        ("file", Json::name(&trail.name)),
+        ("file", Json::text(&trail.name)),
         ("crosses", Json::Truth(crossing.is_some())),
     ];
     if let Some(crossing) = crossing {
@@ -79,6 +79,6 @@ fn answer(trail: &Trail, crossing: Option<Crossing>, means: String) -> Json {
         fields.push(("first", Json::Whole(trail.first().into())));
     }
     fields.push(("mark", Json::mark(trail.mark)));
-    fields.push(("means", Json::Text(means)));
+    fields.push(("means", Json::text(means)));
     Json::Object(fields)
 }

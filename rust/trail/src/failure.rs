@@ -100,7 +100,7 @@ impl Failure {
 
     /// What programs are told: of wrong usage nothing, and nothing where they can't be.
     pub fn answer(&self) -> Option<Json> {
-        let failed = |what: &String| vec![("failed", Json::Text(what.clone()))];
+        let failed = |what: &String| vec![("failed", Json::text(what))];
         let (spot, what) = match self {
             Failure::Refused(spot, refusal, fact) => {
                 let mut fields = Vec::from(refusal_fields(*refusal));
@@ -111,7 +111,7 @@ impl Failure {
             Failure::File(file, what) => (Spot::file(file), failed(what)),
             Failure::Usage(_) | Failure::Unheard(_) => return None,
         };
-        let mut fields = vec![("file", Json::Name(spot.file))];
+        let mut fields = vec![("file", Json::text(spot.file))];
         fields.extend(spot.line.map(|line| ("line", Json::Whole(line as i64))));
         fields.extend(what);
         Some(Json::Object(fields))
@@ -122,7 +122,7 @@ impl Failure {
 pub fn refusal_fields(refusal: Refusal) -> [(&'static str, Json); 2] {
     [
         ("refused", Json::Whole(refusal.number().into())),
-        ("sentence", Json::Text(refusal.to_string())),
+        ("sentence", Json::text(refusal.to_string())),
     ]
 }
 

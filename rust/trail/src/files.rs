@@ -11,22 +11,34 @@ use trails::LONGEST;
 use crate::failure::Failure;
 
 /// A text has at most 4,096 fixes. One longer than this is a mistake.
-const LONGEST_TEXT: u64 = 64 << 20;
+const LONGEST_TEXT: u64 = 8 << 20;
 
 pub fn failed(name: &OsStr) -> impl FnOnce(io::Error) -> Failure + '_ {
     move |error| Failure::File(name.to_os_string(), error.to_string())
 }
 
+/// The file behind a stream of this program's. Rust's own streams read more than is asked for, and don't tell of an
+/// output that can't be written.
+pub fn behind(stream: impl AsFd) -> io::Result<File> {
+    stream.as_fd().try_clone_to_owned().map(File::from)
+}
+
 /// A file, or the standard input if its name is `-`.
-fn open(name: &OsStr) -> io::Result<Box<dyn Read>> {
+pub fn open(name: &OsStr) -> io::Result<File> {
     if name == "-" {
-        return Ok(Box::new(io::stdin().lock()));
+        return behind(io::stdin());
     }
     let file = File::open(name)?;
     match file.metadata()?.is_dir() {
         true => Err(io::Error::other("it is a folder")),
-        false => Ok(Box::new(file)),
+        false => Ok(file),
     }
+}
+
+/// Writes all that is read.
+pub fn fill(mut to: &File, mut contents: impl Read) -> io::Result<()> {
+    io::copy(&mut contents, &mut to)?;
+    Ok(())
 }
 
 /// As many bytes as a record may have, or all if they are fewer.
@@ -37,7 +49,7 @@ pub fn read_start(from: &mut impl Read) -> io::Result<Vec<u8>> {
 }
 
 /// What a file begins with, as far as it can be a record, and all that follows.
-pub fn begin(name: &OsStr) -> Result<(Vec<u8>, Box<dyn Read>), Failure> {
+pub fn begin(name: &OsStr) -> Result<(Vec<u8>, File), Failure> {
     let begun = open(name).and_then(|mut file| Ok((read_start(&mut file)?, file)));
     begun.map_err(failed(name))
 }
@@ -48,7 +60,7 @@ pub fn read_text(name: &OsStr) -> Result<Vec<u8>, Failure> {
     // one byte more than the most tells a text that has more
     let read = open(name).and_then(|file| file.take(LONGEST_TEXT + 1).read_to_end(&mut text));
     let read = read.and_then(|length| match length as u64 > LONGEST_TEXT {
-        true => Err(io::Error::other("it has more than 64 MiB")),
+        true => Err(io::Error::other("it has more than 8 MiB")),
         false => Ok(text),
     });
     read.map_err(failed(name))
@@ -61,22 +73,33 @@ pub fn are_one(one: &Metadata, other: &Metadata) -> bool {
 }
 
 /// What the system says of a file, or of this stream if its name is `-`.
-pub fn described(name: &OsStr, stream: impl AsFd) -> io::Result<Metadata> {
+fn described(name: &OsStr, stream: impl AsFd) -> io::Result<Metadata> {
     match name == "-" {
-        true => File::from(stream.as_fd().try_clone_to_owned()?).metadata(),
+        true => behind(stream)?.metadata(),
         false => fs::metadata(name),
     }
 }
 
-/// Whether an input and an output are one file, by whatever names.
-pub fn is_read(input: &OsStr, output: &OsStr) -> bool {
-    let read = described(input, io::stdin());
-    let written = described(output, io::stdout());
-    read.is_ok_and(|read| written.is_ok_and(|written| are_one(&read, &written)))
+/// What the system says of an input.
+pub fn input(name: &OsStr) -> io::Result<Metadata> {
+    described(name, io::stdin())
 }
 
-/// Whether an output is a plain file that begins with a record.
-pub fn is_record(output: &OsStr) -> bool {
-    let plain = output != "-" && fs::metadata(output).is_ok_and(|there| there.is_file());
-    plain && begin(output).is_ok_and(|(bytes, _)| trails::check(&bytes).is_ok())
+/// Whether an input and an output are one file, by whatever names.
+pub fn is_read(name: &OsStr, to: &OsStr) -> bool {
+    let written = described(to, io::stdout());
+    input(name).is_ok_and(|read| written.is_ok_and(|written| are_one(&read, &written)))
+}
+
+/// Whether an output is the file that answers are printed to. It would take their place, and they would be lost.
+pub fn is_printed_to(to: &OsStr) -> bool {
+    let printed = behind(io::stdout()).and_then(|printed| printed.metadata());
+    let written = fs::metadata(to);
+    to != "-" && printed.is_ok_and(|one| written.is_ok_and(|other| are_one(&one, &other)))
+}
+
+/// Whether an output is a plain file that begins with a record, or that can't be read, and then may.
+pub fn may_be_record(to: &OsStr) -> bool {
+    let plain = to != "-" && fs::metadata(to).is_ok_and(|there| there.is_file());
+    plain && begin(to).map_or(true, |(bytes, _)| trails::check(&bytes).is_ok())
 }

@@ -2,7 +2,6 @@
 
 use std::ffi::{OsStr, OsString};
 use std::fmt;
-use std::os::unix::ffi::OsStrExt;
 
 use crate::words;
 
@@ -10,16 +9,15 @@ pub enum Json {
     Null,
     Truth(bool),
     Whole(i64),
-    Text(String),
-    /// A file's name, exactly: a byte that isn't UTF-8 is a lone surrogate, from \udc80 to \udcff, as in Python's names.
-    Name(OsString),
+    /// A text, or a file's name, exactly: a byte that isn't UTF-8 is a lone surrogate, \udc80 to \udcff, as Python has it.
+    Text(OsString),
     List(Vec<Json>),
     Object(Vec<(&'static str, Json)>),
 }
 
 impl Json {
-    pub fn name(name: &OsStr) -> Json {
-        Json::Name(name.to_os_string())
+    pub fn text(text: impl AsRef<OsStr>) -> Json {
+        Json::Text(text.as_ref().to_os_string())
     }
 
     /// A mark, null for a trail that was never thinned.
@@ -35,30 +33,26 @@ impl Json {
     }
 }
 
-/// What stands between the quotes. What a terminal would obey is escaped, so that a line may be looked at too.
-fn text(text: &str, to: &mut fmt::Formatter) -> fmt::Result {
-    for c in text.chars() {
-        match c {
-            '"' | '\\' => write!(to, "\\{c}")?,
-            c if words::steers(c) => {
-                for unit in c.encode_utf16(&mut [0; 2]) {
-                    write!(to, "\\u{unit:04x}")?;
-                }
-            }
-            c => write!(to, "{c}")?,
+/// A character between quotes. What a terminal would obey is escaped, so that a line may be looked at too.
+fn escaped(c: char) -> String {
+    match c {
+        '"' | '\\' => format!("\\{c}"),
+        c if words::steers(c) => {
+            let units = c.encode_utf16(&mut [0; 2]).to_vec();
+            units.iter().map(|unit| format!("\\u{unit:04x}")).collect()
         }
+        c => c.into(),
     }
-    Ok(())
 }
 
-fn name(name: &OsStr, to: &mut fmt::Formatter) -> fmt::Result {
-    for chunk in name.as_bytes().utf8_chunks() {
-        text(chunk.valid(), to)?;
-        for byte in chunk.invalid() {
-            write!(to, "\\udc{byte:02x}")?;
-        }
-    }
-    Ok(())
+fn quoted(text: &OsStr) -> String {
+    let pieces = words::pieces(text, escaped, |byte| format!("\\udc{byte:02x}"));
+    format!("\"{}\"", pieces.collect::<String>())
+}
+
+/// Values with commas between them.
+fn list(values: impl Iterator<Item = String>) -> String {
+    values.collect::<Vec<_>>().join(",")
 }
 
 impl fmt::Display for Json {
@@ -67,31 +61,13 @@ impl fmt::Display for Json {
             Json::Null => to.write_str("null"),
             Json::Truth(truth) => write!(to, "{truth}"),
             Json::Whole(number) => write!(to, "{number}"),
-            Json::Text(string) => {
-                to.write_str("\"")?;
-                text(string, to)?;
-                to.write_str("\"")
-            }
-            Json::Name(string) => {
-                to.write_str("\"")?;
-                name(string, to)?;
-                to.write_str("\"")
-            }
+            Json::Text(text) => to.write_str(&quoted(text)),
             Json::List(values) => {
-                to.write_str("[")?;
-                for (k, value) in values.iter().enumerate() {
-                    let comma = if k == 0 { "" } else { "," };
-                    write!(to, "{comma}{value}")?;
-                }
-                to.write_str("]")
+                write!(to, "[{}]", list(values.iter().map(Json::to_string)))
             }
             Json::Object(fields) => {
-                to.write_str("{")?;
-                for (k, (name, value)) in fields.iter().enumerate() {
-                    let comma = if k == 0 { "" } else { "," };
-                    write!(to, "{comma}\"{name}\":{value}")?;
-                }
-                to.write_str("}")
+                let field = |(name, value): &(&str, Json)| format!("\"{name}\":{value}");
+                write!(to, "{{{}}}", list(fields.iter().map(field)))
             }
         }
     }
@@ -100,17 +76,18 @@ impl fmt::Display for Json {
 #[cfg(test)]
 mod tests {
     use super::*;
+    use std::os::unix::ffi::OsStrExt;
 
     #[test]
     fn strings_are_escaped() {
-        let string = Json::Text("a\"b\\c\nd\u{1}é\u{7f}\u{202e}\u{e0001}".into());
+        let string = Json::text("a\"b\\c\nd\u{1}é\u{7f}\u{202e}\u{e0001}");
         let escaped = r#""a\"b\\c\u000ad\u0001é\u007f\u202e\udb40\udc01""#;
         assert_eq!(string.to_string(), escaped);
     }
 
     #[test]
     fn names_are_exact() {
-        let name = Json::name(OsStr::from_bytes(b"a\xffb\xc3\x28\xc3\xa9"));
+        let name = Json::text(OsStr::from_bytes(b"a\xffb\xc3\x28\xc3\xa9"));
         assert_eq!(name.to_string(), r#""a\udcffb\udcc3(é""#);
     }
 

@@ -34,7 +34,7 @@ fn run(arguments: &Arguments) -> Result<Status, Failure> {
         return Ok(Status::Done);
     }
     output::print_json(Json::Object(vec![
-        ("file", Json::name(name)),
+        ("file", Json::text(name)),
         ("count", Json::Whole(trail.fixes.len() as i64)),
         ("mark", Json::mark(trail.mark)),
         ("fixes", Json::fixes(&trail.fixes)),

@@ -6,6 +6,7 @@
 
 mod age;
 mod arguments;
+mod beside;
 mod check;
 mod cross;
 mod failure;
@@ -14,6 +15,8 @@ mod json;
 mod lines;
 mod list;
 mod meaning;
+mod numbers;
+mod options;
 mod output;
 mod place;
 mod plot;
@@ -59,11 +62,14 @@ are the same. Times are in seconds and places in centimetres. Of a file that is
 read, what follows its trail is ignored.
 
 With --json the answer is one line of JSON, and so is a refusal, {\"file\",
-\"refused\", \"sentence\"}, or a failure, {\"file\", \"failed\"}. A byte of a file's
-name that isn't UTF-8 is there one of \\udc80 to \\udcff, as Python has it.
+\"refused\", \"sentence\"}, or a failure, {\"file\", \"failed\"}. Refusal 3 has
+\"count\" too, 12 and 13 have \"first\" and \"last\", and what is about a line of a
+text has \"line\". A byte of a file's name that isn't UTF-8 is there one of
+\\udc80 to \\udcff, as Python has it.
 
 Exit status: 0 done; 1 refused, with the refusal's number and sentence;
-2 wrong usage; 3 a file couldn't be read or written, or an answer printed.
+2 wrong usage or a bad line; 3 a file couldn't be read or written, or an answer
+printed.
 ";
 
 /// An aging takes up to 600,000 bytes of stack, whatever limit the shell has set for the first thread.

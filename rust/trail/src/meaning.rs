@@ -14,9 +14,10 @@ pub fn of_place(mark: Option<u16>) -> String {
     match mark {
         None => NEVER.into(),
         Some(0) => NOTHING.into(),
-        Some(e) => {
-            format!("thinned at {e} cm: at that moment the original was within {e} cm of the exact place")
-        }
+        Some(e) => format!(
+            "thinned at {e} cm: at that moment the cart, as it reported, was within {e} cm of \
+             the exact place"
+        ),
     }
 }
 
@@ -26,11 +27,11 @@ pub fn of_crossing(mark: Option<u16>, told: bool) -> String {
         (None, _) => NEVER.into(),
         (Some(0), _) => NOTHING.into(),
         (Some(e), true) => format!(
-            "thinned at {e} cm: at that moment it was in the box or within {e} cm of it, \
+            "thinned at {e} cm: at that moment the cart was in the box or within {e} cm of the box, \
              and if it was in the box earlier in the window, it was within {e} cm of an edge"
         ),
-        (Some(e), false) => {
-            format!("thinned at {e} cm: if it was in the box then, it was within {e} cm of an edge")
-        }
+        (Some(e), false) => format!(
+            "thinned at {e} cm: if it was in the box then, it was within {e} cm of an edge"
+        ),
     }
 }

@@ -2,18 +2,18 @@
 
 use std::io::{self, Read, Write};
 
-use trails::interface::began_without_output;
+use trails::interface::system;
 
 use crate::failure::{Failure, Status};
+use crate::files;
 use crate::json::Json;
 
 /// Prints all that is read, or fails.
-pub fn print_all(mut contents: impl Read) -> Result<(), Failure> {
-    if began_without_output() {
+pub fn print_all(contents: impl Read) -> Result<(), Failure> {
+    if system::began_without_output() {
         return Err(Failure::Unheard("it is closed".into()));
     }
-    let mut to = io::stdout().lock();
-    let printed = io::copy(&mut contents, &mut to).and_then(|_| to.flush());
+    let printed = files::behind(io::stdout()).and_then(|to| files::fill(&to, contents));
     printed.map_err(|error| Failure::Unheard(error.to_string()))
 }
 

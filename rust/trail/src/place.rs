@@ -4,9 +4,10 @@ use std::ffi::OsString;
 
 use trails::Place;
 
-use crate::arguments::{moment, Arguments, Command};
+use crate::arguments::{Arguments, Command};
 use crate::failure::{Failure, Status};
 use crate::json::Json;
+use crate::numbers::moment;
 use crate::trail::Trail;
 use crate::{meaning, output};
 
@@ -61,11 +62,11 @@ fn answer(trail: &Trail, found: Place) -> Json {
         ("denominator", Json::Whole(found.denominator.into())),
     ]);
     Json::Object(vec![
-        ("file", Json::name(&trail.name)),
+        ("file", Json::text(&trail.name)),
         ("x", Json::Whole(found.whole_x.into())),
         ("y", Json::Whole(found.whole_y.into())),
         ("exact", exact),
         ("mark", Json::mark(trail.mark)),
-        ("means", Json::Text(meaning::of_place(trail.mark))),
+        ("means", Json::text(meaning::of_place(trail.mark))),
     ])
 }

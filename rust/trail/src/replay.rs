@@ -5,9 +5,10 @@ use std::fmt::Write as _;
 
 use trails::{Aging, Refusal};
 
-use crate::arguments::{whole, Arguments, Command, DAYS, TOLERANCES};
+use crate::arguments::{Arguments, Command};
 use crate::failure::{refusal_fields, Failure, Status};
 use crate::json::Json;
+use crate::numbers::{whole, DAYS, TOLERANCES};
 use crate::trail::{refused, Trail};
 use crate::{files, lines, output};
 
@@ -120,7 +121,7 @@ fn answer(
         Json::Object(fields)
     };
     Ok(Json::Object(vec![
-        ("file", Json::name(name)),
+        ("file", Json::text(name)),
         ("answers", Json::List(done.iter().map(one).collect())),
         ("E", Json::mark(greatest)),
         ("mark", Json::mark(trails::check(record)?.mark)),

@@ -1,46 +1,46 @@
 //! Files that are stored: there is always a whole one, the old or the new, no change of somebody else's is lost, and
 //! nobody reads a file who couldn't before.
 
+use std::collections::BTreeSet;
 use std::ffi::OsStr;
-use std::fs::{self, File, Metadata, OpenOptions, Permissions, TryLockError};
-use std::io::{self, ErrorKind, Read, Write};
-use std::os::unix::ffi::OsStrExt;
-use std::os::unix::fs::{fchown, FileExt, MetadataExt, OpenOptionsExt, PermissionsExt};
+use std::fs::{self, File, Metadata, OpenOptions, TryLockError};
+use std::io::{self, ErrorKind, Read};
+use std::os::unix::fs::{FileExt, MetadataExt};
 use std::path::{Path, PathBuf};
 use std::thread;
 use std::time::{Duration, Instant};
 
+use trails::interface::system;
+
+use crate::beside::{folder, mask, Beside, OWNER};
 use crate::failure::Failure;
-use crate::files::{are_one, described, failed};
+use crate::files::{are_one, failed, fill, input, open};
 use crate::{output, words};
 
 /// How long a run waits for others that age the same file. Each takes some milliseconds.
 const PATIENCE: Duration = Duration::from_secs(10);
 
-/// Whom a file lets read and write it: its owner, or all whom the shell's mask lets.
-const OWNER: u32 = 0o600;
+/// Permissions of a file that everybody reads and writes, and of one that everybody reads.
 const ALL: u32 = 0o666;
+const READ_BY_ALL: u32 = 0o444;
 
 /// The file that a name leads to through links, whether or not it is there, so that a link stays a link.
 fn target(name: &OsStr) -> io::Result<PathBuf> {
     let mut path = PathBuf::from(name);
     // as many links as Linux follows
-    for _ in 0..40 {
-        match fs::read_link(&path) {
-            Ok(next) => path = folder(&path).join(next),
-            // no link, or nothing there
-            Err(_) => return Ok(path),
+    for _ in 0..=40 {
+        // no link, or nothing there
+        let Ok(next) = fs::read_link(&path) else {
+            return Ok(path);
+        };
+        let at = folder(&path);
+        if fs::canonicalize(at)?.starts_with("/proc") {
+            let what = "it stands for an open file; give the file's own name, or '-'";
+            return Err(io::Error::other(what));
         }
+        path = at.join(next);
     }
     Err(io::Error::other("its links lead nowhere"))
-}
-
-fn folder(path: &Path) -> &Path {
-    match path.parent() {
-        Some(parent) if parent.as_os_str().is_empty() => Path::new("."),
-        Some(parent) => parent,
-        None => path,
-    }
 }
 
 /// A plain file that is to be replaced. It is locked against other runs of this command, from before it is read until
@@ -49,6 +49,7 @@ pub struct Locked {
     path: PathBuf,
     pub file: File,
     before: Metadata,
+    list: Option<Vec<u8>>,
 }
 
 impl Locked {
@@ -72,7 +73,12 @@ impl Locked {
             let before = file.metadata()?;
             // the run that had the lock may have put a new file in the place of the one that was opened
             if are_one(&before, &fs::metadata(&path)?) {
-                return Ok(Locked { path, file, before });
+                return Ok(Locked {
+                    list: system::access_list(&file)?,
+                    path,
+                    file,
+                    before,
+                });
             }
             if Instant::now() > patience {
                 return Err(io::Error::other("somebody else goes on replacing it"));
@@ -94,12 +100,13 @@ impl Locked {
     }
 
     fn put(&self, was: &[u8], contents: impl Read) -> io::Result<()> {
-        let beside = Beside::create(&self.path, OWNER)?;
+        let beside = Beside::create(&self.path)?;
         beside.give_to(&self.before)?;
-        beside.fill(contents)?;
-        // last, so that nobody ever reads it who couldn't read the old one
-        let mode = self.before.mode() & 0o777;
-        beside.file.set_permissions(Permissions::from_mode(mode))?;
+        fill(&beside.file, contents)?;
+        match &self.list {
+            Some(list) => system::set_access_list(&beside.file, list)?,
+            None => beside.permit(self.before.mode())?,
+        }
         beside.file.sync_all()?;
         self.unchanged(was)?;
         beside.rename(&self.path)
@@ -108,14 +115,16 @@ impl Locked {
     /// Fails if somebody who asks for no lock has changed the file meanwhile, or who may read it.
     fn unchanged(&self, was: &[u8]) -> io::Result<()> {
         let state = |of: &Metadata| {
-            let written = (of.len(), of.mtime(), of.mtime_nsec());
-            (of.dev(), of.ino(), written, of.ctime(), of.ctime_nsec())
+            let access = (of.mode(), of.uid(), of.gid(), of.nlink());
+            let changed = (of.mtime(), of.mtime_nsec(), of.ctime(), of.ctime_nsec());
+            (of.dev(), of.ino(), of.len(), access, changed)
         };
         let same = state(&fs::metadata(&self.path)?) == state(&self.before);
         // the clock of a disk may stand still between two changes
         let mut now = vec![0; was.len()];
-        let read = self.file.read_exact_at(&mut now, 0);
-        match same && read.is_ok() && now == was {
+        let read = self.file.read_exact_at(&mut now, 0).is_ok();
+        let same_list = system::access_list(&self.file)? == self.list;
+        match same && same_list && read && now == was {
             true => Ok(()),
             false => Err(io::Error::other("somebody else has changed it meanwhile")),
         }
@@ -138,8 +147,8 @@ fn lock(file: &File, patience: Instant) -> io::Result<()> {
     }
 }
 
-/// Stores a file, new or not, or prints it if its name is `-`.
-pub fn store(name: &OsStr, made_of: &OsStr, contents: impl Read) -> Result<(), Failure> {
+/// Stores a file, new or not, or prints it if its name is `-`. The sources are what it is made of.
+pub fn store(name: &OsStr, sources: &[&OsStr], contents: impl Read) -> Result<(), Failure> {
     if name == "-" {
         return output::print_all(contents);
     }
@@ -150,124 +159,57 @@ pub fn store(name: &OsStr, made_of: &OsStr, contents: impl Read) -> Result<(), F
             return locked.replace(name, &[], contents);
         }
         // a device or a pipe takes the bytes and can't be replaced
-        Ok(_) => write_to(Path::new(name), contents),
+        Ok(_) => OpenOptions::new()
+            .write(true)
+            .open(name)
+            .and_then(|to| fill(&to, contents)),
         Err(error) if error.kind() == ErrorKind::NotFound => {
-            let source = described(made_of, io::stdin()).ok();
-            let source = source.filter(Metadata::is_file);
-            target(name).and_then(|path| create(&path, source.as_ref(), contents))
+            target(name).and_then(|path| create(&path, sources, contents))
         }
         Err(error) => Err(error),
     };
     stored.map_err(failed(name))
 }
 
-fn write_to(path: &Path, mut contents: impl Read) -> io::Result<()> {
-    let mut file = OpenOptions::new().write(true).open(path)?;
-    io::copy(&mut contents, &mut file)?;
-    file.flush()
-}
-
-/// Makes a new file. One that is made of a plain file is read by nobody who can't read that one.
-fn create(path: &Path, source: Option<&Metadata>, contents: impl Read) -> io::Result<()> {
-    let mode = source.map_or(ALL, |source| source.mode() & ALL | OWNER);
-    let beside = Beside::create(path, mode)?;
-    let for_group = |source: &Metadata| source.mode() & 0o444 != 0o444;
-    if let Some(source) = source.filter(|source| for_group(source)) {
-        if !beside.give_to_group(source)? {
-            let mode = Permissions::from_mode(OWNER);
-            beside.file.set_permissions(mode)?;
-        }
-    }
-    beside.fill(contents)?;
+/// Makes a new file.
+fn create(path: &Path, sources: &[&OsStr], contents: impl Read) -> io::Result<()> {
+    let beside = Beside::create(path)?;
+    fill(&beside.file, contents)?;
+    beside.permit(permissions(&beside, &plain(sources)?))?;
     beside.file.sync_all()?;
-    match fs::hard_link(&beside.path, path) {
-        // its other name goes with `beside`
-        Ok(()) => Ok(()),
-        Err(error) if error.kind() == ErrorKind::AlreadyExists => {
-            Err(io::Error::other("somebody else has made it meanwhile"))
-        }
-        // a disk may have no links
-        Err(_) => beside.rename(path),
+    if fs::symlink_metadata(path).is_ok() {
+        return Err(io::Error::other("somebody else has made it meanwhile"));
     }
+    beside.rename(path)
 }
 
-/// A new file beside another, which is removed unless it gets the other's name.
-struct Beside {
-    path: PathBuf,
-    file: File,
-    named: bool,
+/// What the system says of the sources that are plain files, and their access lists; of a pipe it says nothing.
+fn plain(sources: &[&OsStr]) -> io::Result<Vec<(Metadata, Option<Vec<u8>>)>> {
+    let is_plain = |source: &&&OsStr| input(source).is_ok_and(|of| of.is_file());
+    let opened = sources.iter().filter(is_plain).map(|source| open(source));
+    let told = |file: File| Ok((file.metadata()?, system::access_list(&file)?));
+    opened.map(|file| file.and_then(told)).collect()
 }
 
-impl Drop for Beside {
-    fn drop(&mut self) {
-        if !self.named {
-            // what can't be removed stays beside a trail that is whole
-            let _ = fs::remove_file(&self.path);
-        }
-        // Without this a power cut may bring the old file back, whole. So if a disk can't do it, nothing is lost.
-        let _ = File::open(folder(&self.path)).and_then(|folder| folder.sync_all());
-    }
-}
-
-impl Beside {
-    /// `NAME.tmp-PROCESS`, or with a further number if an interrupted run has left one.
-    fn create(path: &Path, mode: u32) -> io::Result<Beside> {
-        let name = path.file_name();
-        let name = name.ok_or_else(|| io::Error::other("it isn't a file's name"))?;
-        // a name has at most 255 bytes
-        let start = name.as_bytes().get(..200).unwrap_or(name.as_bytes());
-        let mut last = io::Error::from(ErrorKind::AlreadyExists);
-        for k in 0..100 {
-            let mut beside = OsStr::from_bytes(start).to_os_string();
-            beside.push(format!(".tmp-{}", std::process::id()));
-            if k > 0 {
-                beside.push(format!("-{k}"));
-            }
-            let path = path.with_file_name(beside);
-            let mut options = OpenOptions::new();
-            match options.write(true).create_new(true).mode(mode).open(&path) {
-                Ok(file) => {
-                    let named = false;
-                    return Ok(Beside { path, file, named });
-                }
-                Err(error) if error.kind() == ErrorKind::AlreadyExists => last = error,
-                Err(error) => return Err(error),
-            }
-        }
-        Err(last)
-    }
-
-    /// Gives it the other's group, and says whether it could.
-    fn give_to_group(&self, other: &Metadata) -> io::Result<bool> {
-        let _ = fchown(&self.file, None, Some(other.gid()));
-        Ok(self.file.metadata()?.gid() == other.gid())
-    }
-
-    /// Gives it the other's owner and group. Only the superuser may give files away, so it may become the caller's own;
-    /// but its group must stay: else strangers would read it, and colleagues wouldn't.
-    fn give_to(&self, other: &Metadata) -> io::Result<()> {
-        let _ = fchown(&self.file, Some(other.uid()), None);
-        match self.give_to_group(other)? {
-            true => Ok(()),
-            false => Err(io::Error::other("its group can't be kept")),
-        }
-    }
-
-    fn fill(&self, mut contents: impl Read) -> io::Result<()> {
-        io::copy(&mut contents, &mut &self.file)?;
-        Ok(())
-    }
-
-    fn rename(mut self, path: &Path) -> io::Result<()> {
-        fs::rename(&self.path, path)?;
-        self.named = true;
-        Ok(())
+/// The permissions of a new file: nobody reads it who can't read all of its sources.
+fn permissions(new: &Beside, sources: &[(Metadata, Option<Vec<u8>>)]) -> u32 {
+    let mode = sources.iter().fold(ALL, |mode, (of, _)| mode & of.mode()) | OWNER;
+    let for_all = mode & READ_BY_ALL == READ_BY_ALL;
+    let listed = sources.iter().any(|(_, list)| list.is_some());
+    // where not everybody reads them it must be of the one group that does
+    let groups: BTreeSet<u32> = sources.iter().map(|(of, _)| of.gid()).collect();
+    let for_group = groups.len() == 1 && groups.iter().all(|group| new.give_to_group(*group));
+    match !listed && (for_all || for_group) {
+        true => mode & !mask(),
+        false => OWNER,
     }
 }
 
 #[cfg(test)]
 mod tests {
     use super::*;
+    use std::fs::Permissions;
+    use std::os::unix::fs::PermissionsExt;
 
     /// Fails to replace a file after this has happened to it, and leaves nothing else in its folder.
     fn fails_after(number: u32, happens: impl FnOnce(&Path)) {
@@ -278,15 +220,15 @@ mod tests {
         fs::write(&file, "old").expect("a file");
         let locked = Locked::read(file.as_os_str()).expect("it is there");
         happens(&file);
-        let there = (
-            fs::read(&file).ok(),
-            fs::metadata(&file).map(|of| of.mode()).ok(),
-        );
+        let state = || {
+            (
+                fs::read(&file).ok(),
+                fs::metadata(&file).map(|of| of.mode()).ok(),
+            )
+        };
+        let there = state();
         let replaced = locked.replace(file.as_os_str(), b"old", &b"aged"[..]);
-        let after = (
-            fs::read(&file).ok(),
-            fs::metadata(&file).map(|of| of.mode()).ok(),
-        );
+        let after = state();
         let files = fs::read_dir(&folder).expect("it is there").count();
         fs::remove_dir_all(&folder).expect("it is ours");
         assert!(replaced.is_err());

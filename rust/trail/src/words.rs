@@ -20,24 +20,34 @@ pub fn steers(c: char) -> bool {
     unseen || c.is_control()
 }
 
-/// A word as people read it: on one line, and with nothing that a terminal obeys. Bytes that aren't UTF-8 are numbers.
-pub fn harmless(word: impl AsRef<OsStr>) -> String {
-    let mut text = String::new();
-    for chunk in word.as_ref().as_bytes().utf8_chunks() {
-        for c in chunk.valid().chars() {
-            match c {
-                '\\' => text.push_str("\\\\"),
-                c if steers(c) => text.extend(c.escape_default()),
-                c => text.push(c),
-            }
-        }
-        let numbers = chunk.invalid().iter().map(|byte| format!("\\x{byte:02x}"));
-        text.extend(numbers);
+/// A character as people read it.
+fn escaped(c: char) -> String {
+    match c {
+        '\\' => "\\\\".into(),
+        c if steers(c) => c.escape_default().to_string(),
+        c => c.into(),
     }
-    text
 }
 
-/// The name of a file that is read, as people read it.
+/// A name in pieces: each character that it has in UTF-8 by `one`, and each byte that isn't UTF-8 by `other`.
+pub fn pieces<'a>(
+    name: &'a OsStr,
+    one: impl Fn(char) -> String + Copy + 'a,
+    other: impl Fn(u8) -> String + Copy + 'a,
+) -> impl Iterator<Item = String> + 'a {
+    let chunks = name.as_bytes().utf8_chunks();
+    chunks.flat_map(move |chunk| {
+        let valid = chunk.valid().chars().map(one);
+        valid.chain(chunk.invalid().iter().map(move |byte| other(*byte)))
+    })
+}
+
+/// A word as people read it: on one line, and with nothing that a terminal obeys. Bytes that aren't UTF-8 are numbers.
+pub fn harmless(word: impl AsRef<OsStr>) -> String {
+    pieces(word.as_ref(), escaped, |byte| format!("\\x{byte:02x}")).collect()
+}
+
+/// A file's name as people read it, or what stands for the standard input.
 pub fn shown(name: &OsStr) -> String {
     match name.as_bytes() {
         b"-" => "standard input".into(),

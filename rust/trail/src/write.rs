@@ -4,9 +4,10 @@ use std::ffi::OsString;
 
 use trails::{Fix, Refusal};
 
-use crate::arguments::{whole, Arguments, Command, PLACES, SECONDS};
+use crate::arguments::{Arguments, Command};
 use crate::failure::{Fact, Failure, Spot, Status};
 use crate::json::Json;
+use crate::numbers::{whole, PLACES, SECONDS};
 use crate::store::store;
 use crate::{files, lines, output};
 
@@ -86,10 +87,10 @@ fn run(arguments: &Arguments) -> Result<Status, Failure> {
             count.filter(|_| refusal == Refusal::BadCount),
         )
     })?;
-    store(to, from, record.as_slice())?;
+    store(to, &[from], record.as_slice())?;
     if arguments.has("--json") {
         output::print_json(Json::Object(vec![
-            ("file", Json::name(to)),
+            ("file", Json::text(to)),
             ("count", Json::Whole(fixes.len() as i64)),
             ("bytes", Json::Whole(record.len() as i64)),
         ]))?;

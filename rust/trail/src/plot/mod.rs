@@ -46,8 +46,8 @@ kept fixes marked. The picture suits light and dark backgrounds.
                    first in the box; without --window that is asked of all its
                    seconds
   -o OUT.svg       where the picture goes; '-' is the standard output
-  --force          let the picture replace a file that is a trail, but none
-                   that is drawn
+  --force          let the picture replace a trail, but never one that it
+                   draws
 ";
 
 /// When the trail is first in the box. What isn't given is all there is, so that a bad box or window is refused even if
@@ -74,8 +74,11 @@ fn first_in(
 
 /// The file's name without its folders, as far as a line has room for it.
 fn title(name: &OsStr) -> String {
-    let name = Path::new(name).file_name().unwrap_or(name);
-    words::shown(name).chars().take(80).collect()
+    let shown = match Path::new(name).file_name() {
+        Some(last) if name != "-" => words::harmless(last),
+        _ => words::shown(name),
+    };
+    shown.chars().take(80).collect()
 }
 
 /// The tolerance whose band is drawn.
@@ -93,7 +96,7 @@ fn output_of<'a>(arguments: &'a Arguments, drawn: &[&OsStr]) -> Result<&'a OsStr
     if drawn.iter().any(|name| files::is_read(name, to)) {
         return Err(arguments.wrong("-o names a trail that is drawn"));
     }
-    if files::is_record(to) && !arguments.has("--force") {
+    if files::may_be_record(to) && !arguments.has("--force") {
         return Err(arguments.wrong("-o names a file that is a trail; --force replaces it"));
     }
     Ok(to)
@@ -127,6 +130,6 @@ fn run(arguments: &Arguments) -> Result<Status, Failure> {
         window,
         first,
     };
-    store(to, name, picture.svg().as_bytes())?;
+    store(to, &drawn, picture.svg().as_bytes())?;
     Ok(Status::Done)
 }

@@ -5,7 +5,7 @@ use std::fs::OpenOptions;
 use std::os::unix::ffi::OsStrExt;
 use std::process::Command;
 
-use crate::folder::{record, trail_h, trail_h_at_12, Folder, PROGRAM};
+use crate::folder::{record, trail_h, trail_h_at_12, Folder, AGED_H, AGE_H, PROGRAM};
 
 const NEVER: &str = "never thinned: this is the trail as the cart reported it";
 
@@ -21,20 +21,33 @@ fn list_prints_the_fixes() {
     );
 }
 
+/// Commands that read a trail, on `h`, and on the standard input.
+const READERS: [&str; 5] = [
+    "list h",
+    "check h",
+    "place h 5",
+    "cross h --box 0 1 0 1 --window 0 30",
+    "plot h -o -",
+];
+
 #[test]
 fn what_follows_a_record_is_not_read() {
     let folder = Folder::with_h();
-    // without end, and longer than any text may be
-    let endless = "(cat h; cat /dev/zero) | \"$@\"";
-    folder.run_in_shell(endless, &["list", "-"]).says(LISTING);
-    let long = OpenOptions::new()
-        .append(true)
-        .open(folder.path().join("h"));
-    long.expect("a file").set_len(1 << 32).expect("a length");
-    folder.run(&["list", "h"]).says(LISTING);
-    folder
-        .run(&["check", "h"])
-        .says("h: fixes 4, seconds 0 to 30, mark never\n");
+    let answers = READERS.map(|line| folder.run_line(line).out);
+    // longer than the machine has room for
+    let path = folder.path().join("h");
+    let long = OpenOptions::new().append(true).open(path);
+    long.expect("a file").set_len(1 << 40).expect("a length");
+    for (line, answer) in READERS.iter().zip(answers) {
+        let ran = folder.run_line(line);
+        assert!((ran.status, ran.out) == (Some(0), answer), "{line}");
+        // of an input no more is taken than a record may have
+        let words = line.replace(" h", " -");
+        let line = format!("({PROGRAM} {words} > answer; head -c 1000000 | wc -c) < part");
+        folder.put("part", [trail_h(), vec![7; 100_000]].concat());
+        let left = folder.run_in_shell(&line, &[]);
+        left.says(&format!("{}\n", 100_042 - 32_778));
+    }
     let zeros = folder.run(&["list", "/dev/zero"]);
     zeros.fails(1, "/dev/zero: refused 2: The kind isn't 1.");
 }
@@ -99,8 +112,9 @@ fn answers_of_a_thinned_trail_say_how_sure_they_are() {
     let folder = Folder::new();
     let mut aged = trail_h_at_12();
     folder.put("aged", &aged);
-    let ask = |words: &str| folder.run(&words.split(' ').collect::<Vec<_>>());
-    let place = "thinned at 12 cm: at that moment the original was within 12 cm of the exact place";
+    let ask = |words: &str| folder.run_line(words);
+    let place = "thinned at 12 cm: at that moment the cart, as it reported, \
+        was within 12 cm of the exact place";
     ask("place aged 20").says(&format!(
         "place 10 0\nexact 200000/20000 0/20000\n{place}\n"
     ));
@@ -108,7 +122,8 @@ fn answers_of_a_thinned_trail_say_how_sure_they_are() {
         "{{\"file\":\"aged\",\"x\":10,\"y\":0,\"exact\":{{\"x\":200000,\"y\":0,\"denominator\":20000}},\
          \"mark\":12,\"means\":\"{place}\"}}\n"
     ));
-    let yes = "thinned at 12 cm: at that moment it was in the box or within 12 cm of it, \
+    let yes =
+        "thinned at 12 cm: at that moment the cart was in the box or within 12 cm of the box, \
         and if it was in the box earlier in the window, it was within 12 cm of an edge";
     ask("cross aged --box 5 10 -1 1 --window 0 30").says(&format!(
         "yes, 50/20 seconds after the first fix, at 2.500; {yes}\n"
@@ -128,20 +143,20 @@ fn answers_of_a_thinned_trail_say_how_sure_they_are() {
 #[test]
 fn an_aged_file_has_nothing_of_the_old_records_rest() {
     let folder = Folder::with_h();
-    let answer = "h: kept 3 of 4 fixes, measured 3, mark 12, freed 8 bytes\n";
-    folder.run(&["age", "--tolerance", "12", "h"]).says(answer);
+    folder.run(&AGE_H).says(AGED_H);
     assert_eq!(folder.get("h"), trail_h_at_12());
     // and all that followed it: a little, and more than a record may have
     for length in [1, 28, 100_000] {
         let after: Vec<u8> = (0..length).map(|k| (k % 251) as u8).collect();
         folder.put("h", [trail_h(), after.clone()].concat());
         let aged = [trail_h_at_12(), after].concat();
-        let into = ["age", "--tolerance", "12", "h", "-o"];
-        let ran = folder.run(&[&into[..], &["-"]].concat());
+        let ran = folder.run(&[&AGE_H[..], &["-o", "-"]].concat());
         assert!((ran.status, ran.out) == (Some(0), aged.clone()));
-        folder.run(&[&into[..], &["new"]].concat()).says(answer);
+        folder
+            .run(&[&AGE_H[..], &["-o", "new"]].concat())
+            .says(AGED_H);
         assert!(folder.get("new") == aged);
-        folder.run(&["age", "--tolerance", "12", "h"]).says(answer);
+        folder.run(&AGE_H).says(AGED_H);
         assert!(folder.get("h") == aged);
     }
     assert_eq!(folder.names(), ["h", "new"]);
@@ -162,15 +177,14 @@ fn age_by_days_takes_the_tables_tolerance() {
 #[test]
 fn age_into_another_file_leaves_the_first() {
     let folder = Folder::with_h();
-    let answer = "h: kept 3 of 4 fixes, measured 3, mark 12, freed 8 bytes\n";
-    let words = ["age", "--tolerance", "12", "h", "-o"];
-    folder.run(&[&words[..], &["new"]].concat()).says(answer);
+    let into = |to| folder.run(&[&AGE_H[..], &["-o", to]].concat());
+    into("new").says(AGED_H);
     assert_eq!(folder.get("new"), trail_h_at_12());
     folder.put(
         "old",
         "something longer than a trail of four fixes has bytes",
     );
-    folder.run(&[&words[..], &["old"]].concat()).says(answer);
+    into("old").says(AGED_H);
     assert_eq!(folder.get("old"), trail_h_at_12());
     assert_eq!(folder.get("h"), trail_h());
     assert_eq!(folder.names(), ["h", "new", "old"]);

@@ -2,6 +2,7 @@
 
 use std::fs;
 use std::io::Write;
+use std::os::unix::fs::PermissionsExt;
 use std::path::{Path, PathBuf};
 use std::process::{Command, Output, Stdio};
 use std::sync::atomic::{AtomicUsize, Ordering};
@@ -76,6 +77,11 @@ impl Folder {
         fs::write(self.0.join(name), bytes).expect("a file can be put there");
     }
 
+    pub fn permit(&self, name: &str, mode: u32) {
+        let mode = fs::Permissions::from_mode(mode);
+        fs::set_permissions(self.0.join(name), mode).expect("it is ours");
+    }
+
     pub fn with_h() -> Folder {
         let folder = Folder::new();
         folder.put("h", trail_h());
@@ -103,11 +109,17 @@ impl Folder {
         let program = self.0.join("program");
         let copied = Command::new("cp").arg(PROGRAM).arg(&program).status();
         assert!(copied.is_ok_and(|status| status.success()));
+        self.permit("program", 0o755);
         program
     }
 
     pub fn run(&self, words: &[&str]) -> Ran {
         self.run_with(words, b"")
+    }
+
+    /// Runs the command with words that stand in one line.
+    pub fn run_line(&self, line: &str) -> Ran {
+        self.run(&line.split_whitespace().collect::<Vec<_>>())
     }
 
     pub fn run_with(&self, words: &[&str], input: &[u8]) -> Ran {
@@ -145,6 +157,10 @@ pub fn record(fixes: &[(u32, i16, i16)]) -> Vec<u8> {
     let fixes: Vec<Fix> = fixes.iter().copied().map(Fix::from).collect();
     plain::record(NEVER, &fixes)
 }
+
+/// An aging of h, and its answer.
+pub const AGE_H: [&str; 4] = ["age", "--tolerance", "12", "h"];
+pub const AGED_H: &str = "h: kept 3 of 4 fixes, measured 3, mark 12, freed 8 bytes\n";
 
 /// Document 01's trail h.
 pub fn trail_h() -> Vec<u8> {

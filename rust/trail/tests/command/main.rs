@@ -3,6 +3,7 @@
 
 mod answers;
 mod folder;
+mod links;
 mod pictures;
 mod readme;
 mod refusals;

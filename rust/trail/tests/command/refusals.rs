@@ -111,7 +111,7 @@ const SECONDS: &str = "The trail has seconds 0 to 30.";
 fn of_h(words: &str) -> Ran {
     let folder = Folder::new();
     folder.put("h", trail_h());
-    let ran = folder.run(&words.split(' ').collect::<Vec<_>>());
+    let ran = folder.run_line(words);
     assert_eq!(folder.get("h"), trail_h(), "{words}");
     assert_eq!(folder.names(), ["h"], "{words}");
     ran

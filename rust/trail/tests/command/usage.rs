@@ -2,10 +2,11 @@
 
 use std::fs;
 use std::os::unix::net::UnixListener;
+use std::process::Command;
 
 use trails_tests::cases::Random;
 
-use crate::folder::{trail_h, Folder};
+use crate::folder::{trail_h, trail_h_at_12, Folder, Ran, AGED_H, AGE_H, PROGRAM};
 
 const NAMES: [&str; 8] = [
     "list", "check", "write", "age", "place", "cross", "replay", "plot",
@@ -78,7 +79,7 @@ fn wrong_usage_is_said_on_one_line() {
     let folder = Folder::new();
     folder.put("h", trail_h());
     for words in WRONG {
-        let ran = folder.run(&words.split_whitespace().collect::<Vec<_>>());
+        let ran = folder.run_line(words);
         assert_eq!(ran.status, Some(2), "{words}: {}", ran.err);
         assert_eq!(ran.text(), "", "{words}");
         assert!(ran.err.starts_with("trail: "), "{words}: {}", ran.err);
@@ -112,118 +113,131 @@ fn files_that_cannot_be_read_are_named() {
 }
 
 #[test]
-fn texts_above_64_mib_are_turned_away() {
+fn texts_above_8_mib_are_turned_away() {
     let folder = Folder::new();
     let file = fs::File::create(folder.path().join("big")).expect("a file");
     // a file of nothing, which takes no room
-    file.set_len((64 << 20) + 1).expect("a length");
+    file.set_len((8 << 20) + 1).expect("a length");
     for name in ["big", "/dev/zero"] {
         let ran = folder.run(&["write", name, "-o", "new"]);
-        ran.fails(3, &format!("{name}: it has more than 64 MiB"));
+        ran.fails(3, &format!("{name}: it has more than 8 MiB"));
     }
 }
 
-#[test]
-fn a_reader_that_hangs_up_is_no_crash() {
-    let folder = Folder::new();
-    let many: String = (0..4_096).map(|t| format!("{t},{t},-{t}\n")).collect();
-    let words = ["write", "-", "-o", "t"];
-    folder.run_with(&words, many.as_bytes()).says("");
-    let ran = folder.run_in_shell("\"$@\" | head -n 1", &["list", "t"]);
-    assert_eq!(ran.text(), "trail 4096 never\n");
-    assert_eq!(ran.err, "standard output: Broken pipe (os error 32)\n");
-}
+/// Commands that print an answer, on `h`. The last one changes it.
+const ANSWERS: [&str; 8] = [
+    "list h",
+    "check h h",
+    "place h 5 --json",
+    "place h 31 --json",
+    "age --tolerance 12 h -o -",
+    "plot h -o -",
+    "--help",
+    "age --tolerance 12 h",
+];
 
-/// One that is thrown away on purpose, by a descriptor for reading and writing too, is no closed one.
 #[test]
-fn a_closed_output_is_told() {
+fn an_output_that_cannot_be_written_is_told() {
     let folder = Folder::with_h();
-    for words in [
-        &["list", "h"][..],
-        &["check", "h", "h"],
-        &["place", "h", "5", "--json"],
-        &["place", "h", "31", "--json"],
-        &["age", "--tolerance", "12", "h", "-o", "-"],
-        &["plot", "h", "-o", "-"],
-        &["--help"],
-        &["age", "--tolerance", "12", "h"],
+    for (output, what) in [
+        (">&-", "it is closed"),
+        ("1< /dev/null", "Bad file descriptor (os error 9)"),
+        ("> /dev/full", "No space left on device (os error 28)"),
     ] {
-        let ran = folder.run_in_shell("\"$@\" >&-", words);
-        assert_eq!(ran.status, Some(3), "{words:?}");
-        assert!(
-            ran.err.ends_with("standard output: it is closed\n"),
-            "{}",
-            ran.err
-        );
-        let ran = folder.run_in_shell("\"$@\" >&- 2>&-", words);
-        assert_eq!(ran.status, Some(3), "{words:?}");
+        folder.put("h", trail_h());
+        for words in ANSWERS {
+            let ran = folder.run_in_shell(&format!("\"$@\" {words} {output}"), &[]);
+            assert_eq!(ran.status, Some(3), "{words} {output}");
+            let end = format!("standard output: {what}\n");
+            assert!(ran.err.ends_with(&end), "{}", ran.err);
+            let ran = folder.run_in_shell(&format!("\"$@\" {words} {output} 2>&-"), &[]);
+            assert_eq!(ran.status, Some(3), "{words} {output}");
+        }
+        // it is aged, and people are told
+        assert_eq!(folder.get("h"), trail_h_at_12());
+        folder.put("h", trail_h());
+        let ran = folder.run_in_shell(&format!("\"$@\" {output}"), &AGE_H);
+        assert_eq!(ran.err, format!("{AGED_H}standard output: {what}\n"));
     }
-    for away in ["> /dev/null", "1<> /dev/null"] {
-        let line = format!("\"$@\" {away}");
+    // thrown away on purpose, by a descriptor for reading and writing too
+    for output in ["> /dev/null", "1<> /dev/null"] {
+        let line = format!("\"$@\" {output}");
         folder.run_in_shell(&line, &["list", "h"]).says("");
     }
 }
 
-/// What is wrong, in the words that the message has before it names the help.
+#[test]
+fn a_reader_that_hangs_up_is_told() {
+    let folder = Folder::with_h();
+    let (reader, writer) = std::io::pipe().expect("a pipe");
+    drop(reader);
+    let mut command = Command::new(PROGRAM);
+    command.args(["list", "h"]).current_dir(folder.path());
+    let ran = command.stdout(writer).output().expect("it runs");
+    Ran::from(ran).fails(3, "standard output: Broken pipe (os error 32)");
+}
+
+/// Wrong words, and what the message has before it names the help.
+const WRONG_VALUES: [(&str, &str); 17] = [
+    (
+        "cross h --window 0 1 --box 0 1 0",
+        "--box takes X0 X1 Y0 Y1, and Y1 is missing",
+    ),
+    (
+        "cross h --box 0 --window 0 1",
+        "--box takes X0 X1 Y0 Y1, and X1 Y0 Y1 are missing",
+    ),
+    (
+        "cross --box 0 9 0 h --window 0 30",
+        "--box takes X0 X1 Y0 Y1, and Y1 is missing",
+    ),
+    (
+        "cross --window 0 h --box 0 9 0 9",
+        "--window takes S E, and E is missing",
+    ),
+    (
+        "cross h --box=0,1 --window 0 1",
+        "--box takes X0 X1 Y0 Y1, and Y0 Y1 are missing",
+    ),
+    ("cross h --box 0 1 0 1 --window", "--window takes S E"),
+    (
+        "cross h --box=0,1,0,1,5 --window 0 1",
+        "--box takes X0 X1 Y0 Y1 and no more",
+    ),
+    ("cross h --box 0 1 0 1", "--window S E is missing"),
+    ("cross h --window 0 1", "--box X0 X1 Y0 Y1 is missing"),
+    (
+        "cross h --box 0 1 -99999999999 1 --window 0 1",
+        "--box, Y0: '-99999999999' isn't a whole number from -16,000 to 16,000",
+    ),
+    (
+        "cross h --box 0 1 0 1 --window 0 -1",
+        "--window, E: '-1' isn't a whole number from 0 to 4,294,967,295",
+    ),
+    (
+        "age --tolerance 65536 h",
+        "--tolerance, E: '65536' isn't a whole number from 0 to 32,000",
+    ),
+    (
+        "age --days=x h",
+        "--days, D: 'x' isn't a whole number from 0 to 65,535",
+    ),
+    ("age --days 7 h -o", "-o takes OUT"),
+    ("plot h", "-o OUT is missing"),
+    ("list h --json=1", "--json takes no value"),
+    (
+        "place h -1",
+        "'-1' isn't a whole number from 0 to 4,294,967,295",
+    ),
+];
+
 #[test]
 fn messages_name_what_is_missing_and_what_may_stand() {
     let folder = Folder::with_h();
-    let edges = "X0 X1 Y0 Y1";
-    for (words, what) in [
-        (
-            "cross h --window 0 1 --box 0 1 0",
-            format!("--box takes {edges}, and Y1 is missing"),
-        ),
-        (
-            "cross h --box 0 --window 0 1",
-            format!("--box takes {edges}, and X1 Y0 Y1 is missing"),
-        ),
-        (
-            "cross h --box=0,1 --window 0 1",
-            format!("--box takes {edges}, and Y0 Y1 is missing"),
-        ),
-        (
-            "cross h --box 0 1 0 1 --window 0",
-            "--window takes S E, and E is missing".into(),
-        ),
-        (
-            "cross h --box=0,1,0,1,5 --window 0 1",
-            format!("--box takes {edges} and no more"),
-        ),
-        ("cross h --box 0 1 0 1", "--window S E is missing".into()),
-        ("cross h --window 0 1", format!("--box {edges} is missing")),
-        (
-            "cross h --box 0 1 -99999999999 1 --window 0 1",
-            "--box, Y0: '-99999999999' isn't a whole number from -16,000 to 16,000".into(),
-        ),
-        (
-            "cross h --box 0 1 0 1 --window 0 -1",
-            "--window, E: '-1' isn't a whole number from 0 to 4,294,967,295".into(),
-        ),
-        (
-            "age --tolerance 65536 h",
-            "--tolerance, E: '65536' isn't a whole number from 0 to 32,000".into(),
-        ),
-        (
-            "age --days=x h",
-            "--days, D: 'x' isn't a whole number from 0 to 65,535".into(),
-        ),
-        (
-            "age --days 7 h -o",
-            "-o takes OUT, and OUT is missing".into(),
-        ),
-        ("list h --json=1", "--json takes no value".into()),
-        (
-            "place h -1",
-            "'-1' isn't a whole number from 0 to 4,294,967,295".into(),
-        ),
-    ] {
-        let ran = folder.run(&words.split(' ').collect::<Vec<_>>());
+    for (words, what) in WRONG_VALUES {
         let name = words.split(' ').next().expect("a word");
-        ran.fails(
-            2,
-            &format!("trail: {name}: {what}; try 'trail {name} --help'"),
-        );
+        let message = format!("trail: {name}: {what}; try 'trail {name} --help'");
+        folder.run_line(words).fails(2, &message);
     }
     let ran = folder.run(&["help", "fly"]);
     ran.fails(2, "trail: there is no command 'fly'; try 'trail --help'");
@@ -232,17 +246,15 @@ fn messages_name_what_is_missing_and_what_may_stand() {
 #[test]
 fn values_may_stand_after_an_equals_sign() {
     let folder = Folder::with_h();
-    let pairs = [
+    for (joined, apart) in [
         (
             "cross h --box=5,10,-1,1 --window=0,30",
             "cross h --box 5 10 -1 1 --window 0 30",
         ),
         ("age --tolerance=12 h -o=-", "age --tolerance 12 h -o -"),
         ("plot h --original=h -o=-", "plot h --original h -o -"),
-    ];
-    for (joined, apart) in pairs {
-        let run = |words: &str| folder.run(&words.split(' ').collect::<Vec<_>>());
-        let (joined, apart) = (run(joined), run(apart));
+    ] {
+        let (joined, apart) = (folder.run_line(joined), folder.run_line(apart));
         assert_eq!(joined.status, Some(0), "{}", joined.err);
         assert_eq!(joined.out, apart.out);
     }

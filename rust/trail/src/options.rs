@@ -1,0 +1,88 @@
+//! The options that there are, and the values that stand after them.
+
+use std::ffi::{OsStr, OsString};
+use std::iter::Peekable;
+use std::os::unix::ffi::OsStrExt;
+
+use crate::numbers::{is_number, DAYS, PLACES, SECONDS, TOLERANCES};
+
+/// An option: its name, the names of its values, and the range of each, if they are numbers.
+pub struct Choice {
+    pub name: &'static str,
+    pub values: &'static [&'static str],
+    pub range: &'static str,
+}
+
+const fn choice(
+    name: &'static str,
+    values: &'static [&'static str],
+    range: &'static str,
+) -> Choice {
+    Choice {
+        name,
+        values,
+        range,
+    }
+}
+
+pub static OPTIONS: [Choice; 8] = [
+    choice("--json", &[], ""),
+    choice("--force", &[], ""),
+    choice("--tolerance", &["E"], TOLERANCES),
+    choice("--days", &["D"], DAYS),
+    choice("--box", &["X0", "X1", "Y0", "Y1"], PLACES),
+    choice("--window", &["S", "E"], SECONDS),
+    choice("--original", &["FILE"], ""),
+    choice("-o", &["OUT"], ""),
+];
+
+impl Choice {
+    /// Its values where they are the next words. An option is no value, and a file's name no number, so that a missing
+    /// one is seen.
+    pub fn next<'a>(&self, words: &mut Peekable<impl Iterator<Item = &'a OsStr>>) -> Vec<OsString> {
+        let suits = |word: &&OsStr| match self.range {
+            "" => !is_option(word),
+            _ => is_number(word),
+        };
+        let next = |_: &&str| words.next_if(suits);
+        let values = self.values.iter().map_while(next);
+        values.map(OsStr::to_os_string).collect()
+    }
+
+    /// Its values where they stand after a `=`, with commas between several. A file's name may have commas.
+    pub fn parts(&self, joined: &OsStr) -> Vec<OsString> {
+        let several = self.values.len() > 1;
+        let parts = joined.as_bytes().split(|byte| several && *byte == b',');
+        let part = |part| OsStr::from_bytes(part).to_os_string();
+        parts.map(part).collect()
+    }
+
+    /// What is wrong with so many values.
+    pub fn counts(&self, given: usize) -> Result<(), String> {
+        let (name, all) = (self.name, self.values.join(" "));
+        match self.values.get(given..) {
+            None if all.is_empty() => Err(format!("{name} takes no value")),
+            None => Err(format!("{name} takes {all} and no more")),
+            Some([]) => Ok(()),
+            Some(_) if given == 0 => Err(format!("{name} takes {all}")),
+            Some([missing]) => Err(format!("{name} takes {all}, and {missing} is missing")),
+            Some(missing) => {
+                let missing = missing.join(" ");
+                Err(format!("{name} takes {all}, and {missing} are missing"))
+            }
+        }
+    }
+}
+
+/// Whether a word is an option: it begins with a dash, and is neither the dash alone nor a number below 0.
+pub fn is_option(word: &OsStr) -> bool {
+    let dashed = word != "-" && word.as_bytes().starts_with(b"-");
+    dashed && !is_number(word)
+}
+
+/// A word's part before its first `=`, and the part after it.
+pub fn parted(word: &OsStr) -> (&OsStr, Option<&OsStr>) {
+    let mut parts = word.as_bytes().splitn(2, |byte| *byte == b'=');
+    let mut part = || parts.next().map(OsStr::from_bytes);
+    (part().unwrap_or(word), part())
+}
