@@ -119,6 +119,7 @@ fn in_a_folder_that_cannot_be_written_the_trail_stays() {
     let folder = Folder::with_h();
     fs::create_dir(folder.path().join("shut")).expect("a folder");
     folder.put("shut/h", trail_h());
+    folder.permit(".", 0o755);
     folder.permit("h", 0o644);
     folder.permit("shut/h", 0o666);
     folder.permit("shut", 0o555);
