@@ -72,30 +72,31 @@ pub fn are_one(one: &Metadata, other: &Metadata) -> bool {
     one.is_file() && place(one) == place(other)
 }
 
-/// What the system says of a file, or of this stream if its name is `-`.
-fn described(name: &OsStr, stream: impl AsFd) -> io::Result<Metadata> {
+/// What the system says of an input.
+pub fn input(name: &OsStr) -> io::Result<Metadata> {
     match name == "-" {
-        true => behind(stream)?.metadata(),
+        true => behind(io::stdin())?.metadata(),
         false => fs::metadata(name),
     }
 }
 
-/// What the system says of an input.
-pub fn input(name: &OsStr) -> io::Result<Metadata> {
-    described(name, io::stdin())
+/// What it says of an output.
+fn output(name: &OsStr) -> io::Result<Metadata> {
+    match name == "-" {
+        true => behind(io::stdout())?.metadata(),
+        false => fs::metadata(name),
+    }
 }
 
 /// Whether an input and an output are one file, by whatever names.
 pub fn is_read(name: &OsStr, to: &OsStr) -> bool {
-    let written = described(to, io::stdout());
-    input(name).is_ok_and(|read| written.is_ok_and(|written| are_one(&read, &written)))
+    input(name).is_ok_and(|read| output(to).is_ok_and(|written| are_one(&read, &written)))
 }
 
-/// Whether an output is the file that answers are printed to. It would take their place, and they would be lost.
+/// Whether an output is the file that answers are printed to: it would take its place, and they would be lost.
 pub fn is_printed_to(to: &OsStr) -> bool {
-    let printed = behind(io::stdout()).and_then(|printed| printed.metadata());
-    let written = fs::metadata(to);
-    to != "-" && printed.is_ok_and(|one| written.is_ok_and(|other| are_one(&one, &other)))
+    let printed = output(OsStr::new("-"));
+    to != "-" && printed.is_ok_and(|one| output(to).is_ok_and(|other| are_one(&one, &other)))
 }
 
 /// Whether an output is a plain file that begins with a record, or that can't be read, and then may.
