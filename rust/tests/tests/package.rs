@@ -43,6 +43,17 @@ fn records_are_read_and_listed() {
 }
 
 #[test]
+fn a_refused_count_is_told() {
+    for count in [0_u16, 1, 4_096, 4_097, 65_535] {
+        let mut bytes = trails::write(&[Fix { t: 7, x: -1, y: 2 }]).expect("one fix is written");
+        bytes[8..10].copy_from_slice(&count.to_le_bytes());
+        assert_eq!(trails::claimed_count(&bytes), Some(count));
+        assert_eq!(trails::claimed_count(&bytes[..10]), Some(count));
+        assert_eq!(trails::claimed_count(&bytes[..9]), None);
+    }
+}
+
+#[test]
 fn fixes_are_written_and_read_again() {
     for case in cases() {
         let Ok(fixes) = trails::fixes(&case.bytes) else {
@@ -50,6 +61,8 @@ fn fixes_are_written_and_read_again() {
         };
         let record = trails::write(&fixes).expect("accepted fixes are written");
         assert_eq!(trails::fixes(&record).as_ref(), Ok(&fixes), "{}", case.name);
+        let length = trails::check(&record).map(|head| head.length());
+        assert_eq!(length, Ok(record.len()), "{}", case.name);
         let mut short = vec![7; record.len() - 1];
         let refused = trails::write_into(&fixes, &mut short);
         assert_eq!(refused, Err(Refusal::ShortOutput), "{}", case.name);

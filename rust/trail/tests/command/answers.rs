@@ -21,8 +21,8 @@ fn list_prints_the_fixes() {
     );
 }
 
-/// Commands that read a trail, on `h`, and on the standard input.
-const READERS: [&str; 5] = [
+/// Commands that read h, or the standard input in its place.
+const READ_H: [&str; 5] = [
     "list h",
     "check h",
     "place h 5",
@@ -33,12 +33,12 @@ const READERS: [&str; 5] = [
 #[test]
 fn what_follows_a_record_is_not_read() {
     let folder = Folder::with_h();
-    let answers = READERS.map(|line| folder.run_line(line).out);
-    // longer than the machine has room for
+    let answers = READ_H.map(|line| folder.run_line(line).out);
+    // longer than a machine has memory
     let path = folder.path().join("h");
     let long = OpenOptions::new().append(true).open(path);
-    long.expect("a file").set_len(1 << 40).expect("a length");
-    for (line, answer) in READERS.iter().zip(answers) {
+    long.expect("a file").set_len(1 << 36).expect("a length");
+    for (line, answer) in READ_H.iter().zip(answers) {
         let ran = folder.run_line(line);
         assert!((ran.status, ran.out) == (Some(0), answer), "{line}");
         // of an input no more is taken than a record may have
@@ -127,6 +127,10 @@ fn answers_of_a_thinned_trail_say_how_sure_they_are() {
         and if it was in the box earlier in the window, it was within 12 cm of an edge";
     ask("cross aged --box 5 10 -1 1 --window 0 30").says(&format!(
         "yes, 50/20 seconds after the first fix, at 2.500; {yes}\n"
+    ));
+    ask("cross aged --box 5 10 -1 1 --window 0 30 --json").says(&format!(
+        "{{\"file\":\"aged\",\"crosses\":true,\"numerator\":50,\"denominator\":20,\"first\":0,\
+         \"mark\":12,\"means\":\"{yes}\"}}\n"
     ));
     let no = "thinned at 12 cm: if it was in the box then, it was within 12 cm of an edge";
     ask("cross aged --box 18 22 -1 1 --window 15 30").says(&format!("no; {no}\n"));
