@@ -166,7 +166,9 @@ size_t trails_list(const uint8_t *record, size_t lent,
  *   - the kept fixes close up at the record's start, and length and count follow;
  *   - the mark becomes the tolerance if it was TRAILS_NEVER, and else the greater
  *     of the two, whoever wrote it;
- *   - the kind, and all bytes from the new length on, are as before the call;
+ *   - the kind, and all bytes from the new length on, are as before the call:
+ *     fixes that were thinned away may still be among these, so what is stored
+ *     of the buffer is to end at the new length;
  *   - value is how many inner fixes were measured, one for each in each span: at
  *     most (count - 1) * (count - 2) / 2 of the count before.
  * Where a check fails, no byte is changed.

@@ -29,13 +29,13 @@ followed the old one. The fixes that were thinned away are gone, and the file
 is shorter by the bytes that were freed. Goes on past a refused file.
 
 The new file is written beside the old one, flushed, and given its name. Group,
-permissions and access list stay. The owner stays if the owner or the superuser
-ages it; else the caller becomes the owner. The file is locked from its reading
-on, so that agings at once are made one after the other; one that waits ten
-seconds for it fails. A refused or failed aging leaves the old file byte for
-byte, and so does one that can't keep its group. An interrupted one may leave a
-FILE.tmp-NUMBER beside it, which can be deleted. Of a file with several names
-only the given one is aged.
+permissions and access list stay, other attributes don't. The owner stays if
+the owner or the superuser ages it; else the caller becomes the owner. The file
+is locked from its reading on, so that agings at once are made one after the
+other; one that waits ten seconds for it fails. A refused or failed aging
+leaves the old file byte for byte, and so does one that can't keep its group.
+An interrupted one may leave a FILE.tmp-NUMBER beside it, which can be deleted.
+Of a file with several names only the given one is aged.
 
   --tolerance E  the tolerance in centimetres, 0 to 32,000
   --days D       the tolerance of a table: from day 2, 10; from day 7, 25;

@@ -54,6 +54,11 @@ pub enum Fact {
 }
 
 impl Fact {
+    /// The count, if a refusal is about it.
+    pub fn count(refusal: Refusal, count: impl Into<usize>) -> Option<Fact> {
+        (refusal == Refusal::BadCount).then_some(Fact::Count(count.into()))
+    }
+
     /// What programs are told of it.
     fn fields(self) -> Vec<(&'static str, Json)> {
         match self {

@@ -56,10 +56,10 @@ usage: trail COMMAND ARGUMENTS
   replay   try a list of agings on a trail, and print what each does
   plot     draw a trail
 
-'trail help COMMAND' says more. A file '-' is the standard input or output,
-and after '--' every argument is a file. '--box 0 9 0 9' and '--box=0,9,0,9'
-are the same. Times are in seconds and places in centimetres. Of a file that is
-read, what follows its trail is ignored.
+'trail help COMMAND' says more. A file '-' is the standard input or output.
+After '--' no argument is an option, and '-' is a file's name. '--box 0 9 0 9'
+and '--box=0,9,0,9' are the same. Times are in seconds and places in
+centimetres. Of a file that is read, what follows its trail is ignored.
 
 With --json the answer is one line of JSON, and so is a refusal, {\"file\",
 \"refused\", \"sentence\"}, or a failure, {\"file\", \"failed\"}. Refusal 3 has

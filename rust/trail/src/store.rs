@@ -1,7 +1,6 @@
 //! Files that are stored: there is always a whole one, the old or the new, no change of somebody else's is lost, and
 //! nobody reads a file who couldn't before.
 
-use std::collections::BTreeSet;
 use std::ffi::OsStr;
 use std::fs::{self, File, Metadata, OpenOptions, TryLockError};
 use std::io::{self, ErrorKind, Read};
@@ -173,9 +172,14 @@ pub fn store(name: &OsStr, sources: &[&OsStr], contents: impl Read) -> Result<()
 
 /// Makes a new file.
 fn create(path: &Path, sources: &[&OsStr], contents: impl Read) -> io::Result<()> {
+    let sources: Vec<Source> = sources
+        .iter()
+        .filter_map(|name| Source::of(name).transpose())
+        .collect::<io::Result<_>>()?;
     let beside = Beside::create(path)?;
     fill(&beside.file, contents)?;
-    beside.permit(permissions(&beside, &plain(sources)?))?;
+    let group = one_group(&sources).filter(|group| beside.give_to_group(*group));
+    beside.permit(permissions(&sources, group))?;
     beside.file.sync_all()?;
     if fs::symlink_metadata(path).is_ok() {
         return Err(io::Error::other("somebody else has made it meanwhile"));
@@ -183,23 +187,46 @@ fn create(path: &Path, sources: &[&OsStr], contents: impl Read) -> io::Result<()
     beside.rename(path)
 }
 
-/// What the system says of the sources that are plain files, and their access lists; of a pipe it says nothing.
-fn plain(sources: &[&OsStr]) -> io::Result<Vec<(Metadata, Option<Vec<u8>>)>> {
-    let is_plain = |source: &&&OsStr| input(source).is_ok_and(|of| of.is_file());
-    let opened = sources.iter().filter(is_plain).map(|source| open(source));
-    let told = |file: File| Ok((file.metadata()?, system::access_list(&file)?));
-    opened.map(|file| file.and_then(told)).collect()
+/// A plain file that a new one is made of.
+struct Source {
+    access: Metadata,
+    listed: bool,
 }
 
-/// The permissions of a new file: nobody reads it who can't read all of its sources.
-fn permissions(new: &Beside, sources: &[(Metadata, Option<Vec<u8>>)]) -> u32 {
-    let mode = sources.iter().fold(ALL, |mode, (of, _)| mode & of.mode()) | OWNER;
-    let for_all = mode & READ_BY_ALL == READ_BY_ALL;
-    let listed = sources.iter().any(|(_, list)| list.is_some());
-    // where not everybody reads them it must be of the one group that does
-    let groups: BTreeSet<u32> = sources.iter().map(|(of, _)| of.gid()).collect();
-    let for_group = groups.len() == 1 && groups.iter().all(|group| new.give_to_group(*group));
-    match !listed && (for_all || for_group) {
+impl Source {
+    /// None for a pipe and the like, of which the system says nothing.
+    fn of(name: &OsStr) -> io::Result<Option<Source>> {
+        if !input(name).is_ok_and(|of| of.is_file()) {
+            return Ok(None);
+        }
+        let file = open(name)?;
+        Ok(Some(Source {
+            access: file.metadata()?,
+            listed: system::access_list(&file)?.is_some(),
+        }))
+    }
+
+    fn is_for_all(&self) -> bool {
+        !self.listed && self.access.mode() & READ_BY_ALL == READ_BY_ALL
+    }
+}
+
+/// The group of the sources that not everybody reads, if it is one.
+fn one_group(sources: &[Source]) -> Option<u32> {
+    let mut closed = sources.iter().filter(|source| !source.is_for_all());
+    let group = closed.next()?.access.gid();
+    closed
+        .all(|source| source.access.gid() == group)
+        .then_some(group)
+}
+
+/// The permissions of a new file that was given to this group, if to any: nobody reads it who can't read all sources.
+fn permissions(sources: &[Source], group: Option<u32>) -> u32 {
+    let listed = sources.iter().any(|source| source.listed);
+    let for_all = sources.iter().all(Source::is_for_all);
+    let modes = sources.iter().map(|source| source.access.mode());
+    let mode = modes.fold(ALL, |mode, other| mode & other) | OWNER;
+    match for_all || group.is_some() && !listed {
         true => mode & !mask(),
         false => OWNER,
     }

@@ -50,8 +50,8 @@ impl Trail {
 /// A record that is turned away, with its count if it is about that.
 pub fn refused<'a>(name: &'a OsStr, bytes: &'a [u8]) -> impl FnOnce(Refusal) -> Failure + 'a {
     move |refusal| {
-        let count = trails::claimed_count(bytes).filter(|_| refusal == Refusal::BadCount);
-        let count = count.map(|count| Fact::Count(count.into()));
+        let count = trails::claimed_count(bytes);
+        let count = count.and_then(|count| Fact::count(refusal, count));
         Failure::Refused(Spot::file(name), refusal, count)
     }
 }

@@ -1,4 +1,4 @@
-//! How names, marks and lists are put for people.
+//! How names and marks are put for people.
 
 use std::ffi::OsStr;
 use std::os::unix::ffi::OsStrExt;

@@ -80,12 +80,7 @@ fn run(arguments: &Arguments) -> Result<Status, Failure> {
             line: refused_line(refusal, &entries),
             ..Spot::file(from)
         };
-        let count = Some(Fact::Count(fixes.len()));
-        Failure::Refused(
-            spot,
-            refusal,
-            count.filter(|_| refusal == Refusal::BadCount),
-        )
+        Failure::Refused(spot, refusal, Fact::count(refusal, fixes.len()))
     })?;
     store(to, &[from], record.as_slice())?;
     if arguments.has("--json") {

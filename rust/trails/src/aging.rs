@@ -44,8 +44,9 @@ impl Aging {
 }
 
 /// Ages the record by tolerance, in centimetres: its fixes are thinned, the kept ones close up at its start, length
-/// and count follow, and the mark becomes the greatest tolerance applied. All bytes from the new length on stay.
-/// Answers how many fixes were measured. Makes checks 1 to 10.
+/// and count follow, and the mark becomes the greatest tolerance applied. All bytes from the new length on stay: fixes
+/// that were thinned away may still be among them, so what is stored of a buffer ends at `Head::length`. Answers how
+/// many fixes were measured. Makes checks 1 to 10.
 ///
 /// STACK. An aging takes up to 600,000 bytes of stack, for a record of 4,096 fixes. Rust's threads have more unless they
 /// are asked to have less; one with less must not age long trails.

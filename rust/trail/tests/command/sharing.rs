@@ -166,16 +166,23 @@ fn a_new_file_is_for_those_who_read_its_sources() {
         access
     };
     assert_eq!(copy(BERT, Some(TEAM), 0o660), (BERT, TEAM, 0o640));
-    assert_eq!(copy(BERT, Some(TEAM), 0o664).2, 0o644);
-    // of whoever isn't in the team, and of those whom the team's trail is closed to
-    assert_eq!(copy(CARLA, None, 0o664).2, 0o644);
+    // what everybody reads needs no group
+    assert_eq!(copy(BERT, Some(TEAM), 0o664), (BERT, BERT, 0o644));
+    assert_eq!(copy(CARLA, None, 0o664), (CARLA, CARLA, 0o644));
+    // who isn't in the team reads this one, and the team doesn't
     assert_eq!(copy(CARLA, None, 0o604), (CARLA, CARLA, 0o600));
     // a picture shows two trails
-    folder.permit("h", 0o600);
     folder.put("t", trail_h());
-    folder.permit("t", 0o644);
-    folder.run_line("plot t --original h -o new").says("");
-    assert_eq!(access(&folder, "new").2, 0o600);
+    for (mode, other) in [(0o600, 0o644), (0o660, 0o640), (0o644, 0o640)] {
+        folder.permit("h", mode);
+        folder.permit("t", other);
+        let words = ["plot", "t", "--original", "h", "-o", "new"];
+        folder.run_in_shell("umask 022; \"$@\"", &words).says("");
+        // of two groups no one is theirs
+        let alone = access(&folder, "new").2 == 0o600;
+        assert_eq!(alone, mode != 0o644, "{mode:o} {other:o}");
+        fs::remove_file(folder.path().join("new")).expect("it is ours");
+    }
 }
 
 /// What is seen of the files beside `h` while something is done a hundred times: group and permissions.
