@@ -97,7 +97,8 @@ struct trails_run {
 };
 
 /* Where a cart was: x / denominator and y / denominator, and the same rounded to
- * whole numbers, halves upward. Where refusal isn't 0, all else is 0. */
+ * whole numbers, halves away from 0: -0.5 is -1, so that a trail mirrored about
+ * the middle aisle has the mirrored place. Where refusal isn't 0, all else is 0. */
 struct trails_place {
     uint32_t refusal;
     uint32_t denominator;

@@ -4,11 +4,12 @@ use mathlib.Core.Path.{refl}
 use mathlib.Core.List.{List, [], _∷_, _++_}
 use mathlib.Core.Option.{Option, some, none}
 use Prim.Native.Nat.{ℕ}
+use Rattle.distance.specs.Examples.{Computes}
 use Rattle.distance.specs.Fix.{last-of}
 use Rattle.distance.specs.Distance.{deviation, allowance}
 use Rattle.format.specs.Bytes.{number-at, bytes-of, signed, unsigned}
 use Rattle.format.specs.Format.{fix-at, each, fix-bytes, all-bytes, header-bytes, record-bytes}
-use Rattle.format.specs.Examples.{Computes, document-bytes}
+use Rattle.format.specs.Examples.{document-bytes}
 use Rattle.record.specs.Checks.{sentence, first, some-outside, some-early-after, some-early, of-ends}
 use Rattle.record.specs.Answers.{Answer, gives, turns-away}
 use Rattle.record.specs.Examples.{read-rows, on-refused}

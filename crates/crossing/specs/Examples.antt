@@ -1,15 +1,15 @@
 -- THE CROSSING IN NUMBERS. Bytes, windows and boxes, written out, and what document 01 says of them: the definitions and the code cannot be changed
 -- together without these rows. Each line is computed.
-use mathlib.Core.Path.{_≡_, refl}
+use mathlib.Core.Path.{refl}
 use mathlib.Core.List.{List, [], _∷_}
 use mathlib.Core.Option.{Option, some, none}
 use Prim.Native.Nat.{ℕ}
-use lib.IntN.{ℤ, pos, negℤ}
+use lib.IntN.{pos}
+use Rattle.distance.specs.Examples.{Computes, minus}
 use Rattle.distance.specs.Fix.{last-of}
 use Rattle.distance.specs.Box.{Box, box-with}
 use Rattle.format.specs.Bytes.{number-at, signed}
 use Rattle.format.specs.Format.{trail, fix-at, each}
-use Rattle.format.specs.Examples.{Computes}
 use Rattle.record.specs.Checks.{sentence, first, some-outside, some-early-after, some-early, of-ends}
 use Rattle.record.specs.Answers.{Answer, gives, turns-away}
 use Rattle.record.specs.Examples.{read-rows, on-refused}
@@ -23,7 +23,7 @@ cross-trail = 26 ∷ 0 ∷ 0 ∷ 0 ∷ 1 ∷ 0 ∷ 255 ∷ 255 ∷ 2 ∷ 0 ∷ 2
 
 -- x 33..40, y −5..5; all of the hall; and boxes that are one centimetre too far, or turned round
 abbrev pub asked-box : Box
-asked-box = box-with (pos 33) (pos 40) (negℤ (pos 5)) (pos 5)
+asked-box = box-with (pos 33) (pos 40) (minus 5) (pos 5)
 
 abbrev pub yes-at : (n d : ℕ) → Answer (Option Fraction)
 yes-at n d = gives (some (fraction n d))
@@ -40,11 +40,11 @@ cross-rows =
     ∷ ((999, 1010, asked-box), turns-away 13)
     ∷ ((1000, 1011, asked-box), turns-away 13)
     -- 14. "A box edge is outside −16,000 to 16,000, or a low edge is above its high edge.": each edge at the limit, and one centimetre further
-    ∷ ((1000, 1010, box-with (negℤ (pos 16000)) (pos 16000) (negℤ (pos 16000)) (pos 16000)), yes-at 0 1)
-    ∷ ((1000, 1010, box-with (negℤ (pos 16001)) (pos 40) (negℤ (pos 5)) (pos 5)), turns-away 14)
-    ∷ ((1000, 1010, box-with (pos 33) (pos 16001) (negℤ (pos 5)) (pos 5)), turns-away 14)
-    ∷ ((1000, 1010, box-with (pos 33) (pos 40) (negℤ (pos 16001)) (pos 5)), turns-away 14)
-    ∷ ((1000, 1010, box-with (pos 33) (pos 40) (negℤ (pos 5)) (pos 16001)), turns-away 14)
+    ∷ ((1000, 1010, box-with (minus 16000) (pos 16000) (minus 16000) (pos 16000)), yes-at 0 1)
+    ∷ ((1000, 1010, box-with (minus 16001) (pos 40) (minus 5) (pos 5)), turns-away 14)
+    ∷ ((1000, 1010, box-with (pos 33) (pos 16001) (minus 5) (pos 5)), turns-away 14)
+    ∷ ((1000, 1010, box-with (pos 33) (pos 40) (minus 16001) (pos 5)), turns-away 14)
+    ∷ ((1000, 1010, box-with (pos 33) (pos 40) (minus 5) (pos 16001)), turns-away 14)
     ∷ ((1000, 1010, box-with (pos 33) (pos 33) (pos 0) (pos 0)), yes-at 330 100)
     ∷ ((1000, 1010, box-with (pos 34) (pos 33) (pos 0) (pos 0)), turns-away 14)
     ∷ ((1000, 1010, box-with (pos 33) (pos 33) (pos 1) (pos 0)), turns-away 14)

@@ -1,10 +1,11 @@
-// The distance layer: units, the fix, and how far an inner fix of a span is from the chord of its two ends.
+// The distance layer: units, the fix, how far an inner fix of a span is from the chord of its two ends, and a place rounded.
 ghost use mathlib.Core.Path.{_≡_};
-ghost use Prim.Native.Nat.{_+_, _≤_};
-ghost use lib.IntN.{pos, _-ℤ_};
+ghost use Prim.Native.Nat.{_+_, _*_, _≤_};
+ghost use lib.IntN.{pos, natAbs, _-ℤ_};
 ghost use Rattle.distance.specs.Fix.{fixOf};
 ghost use Rattle.distance.specs.Distance.{N, deviation, allowance};
-ghost use Rattle.distance.specs.Span.{Chord, Span};
+ghost use Rattle.distance.specs.Rounding.{half-up, rounded};
+ghost use Rattle.distance.specs.Span.{Chord, Span, Roundable};
 
 // A time on the fixes' own clock. Times and lengths have types of their own, so that neither can stand for the other.
 pub struct Seconds(pub u32);
@@ -59,4 +60,37 @@ pub fn allowance(e: Tolerance, i: Fix, j: Fix) -> u64
     let d = elapsed(i.t, j.t);
     let reach = (e.0 as u64) * (d.0 as u64);
     reach * reach
+}
+
+// |z|, of every number of 64 bits but the least, which has no opposite.
+fn magnitude(z: i64) -> u64
+    requires { ⌜ natAbs z ≤ 9223372036854775807 ⌝ }
+    ensures { λ r. ⌜ r ≡ natAbs z ⌝ }
+{
+    if z < 0 {
+        return (0 - z) as u64;
+    }
+    z as u64
+}
+
+// n/d, of numbers that aren't negative: the nearest whole number, halves upward.
+fn half_up(n: u64, d: u32) -> i16
+    requires { ⌜ Roundable (pos n) d ⌝ }
+    ensures { λ r. ⌜ r ≡ pos (half-up n d) ⌝ }
+{
+    let over = d as u64;
+    ((2 * n + over) / (2 * over)) as i16
+}
+
+// One axis of a place, n/d, rounded: the nearest whole number, halves away from 0. The magnitude is rounded and then gets the sign of n, so that both sides
+// of 0 are treated alike.
+pub fn rounded(n: i64, d: u32) -> Centimetres
+    requires { ⌜ Roundable n d ⌝ }
+    ensures { λ r. ⌜ r .0 ≡ rounded n (pos d) ⌝ }
+{
+    let whole = half_up(magnitude(n), d);
+    if n < 0 {
+        return Centimetres(0 - whole);
+    }
+    Centimetres(whole)
 }

@@ -1,16 +1,13 @@
 -- THE FORMAT IN NUMBERS: what document 01 writes out. The definitions and the code cannot be changed together without these rows. Each line is computed.
 use mathlib.Core.Path.{_≡_, refl}
-use mathlib.Core.List.{List, [], _∷_, map}
+use mathlib.Core.List.{List, [], _∷_}
 use Prim.Native.Nat.{ℕ}
 use lib.ListN.{take}
-use lib.IntN.{pos, negℤ}
+use lib.IntN.{pos}
+use Rattle.distance.specs.Examples.{minus}
 use Rattle.distance.specs.Fix.{Fix}
 use Rattle.format.specs.Bytes.{number-at, bytes-of, signed, unsigned}
 use Rattle.format.specs.Format.{trail, never, length-field, kind-field, mark-field, count-field, of-head, record-length, fix-at, each, fixes, fix-bytes, all-bytes, header-bytes, record-bytes}
-
--- Of what stands first in each row, `f` gives what stands second.
-abbrev pub Computes : {A B : Type 0} → (f : A → B) → List (A × B) → Type 0
-Computes {A} {B} f rows = map (λ (r : A × B). f (r .0)) rows ≡ map (λ (r : A × B). r .1) rows
 
 -- "kind (2 bytes, 1 = trail)", "fixes of 8 bytes", "x (2), y (2", "outside −16,000 to 16,000", "above 32,000", "65,535 = never thinned"
 pub kind-numbers : trail .code ∷ trail .size ∷ trail .width ∷ trail .limit ∷ trail .top ∷ never ∷ [] ≡ 1 ∷ 8 ∷ 2 ∷ 16000 ∷ 32000 ∷ 65535 ∷ []
@@ -25,7 +22,7 @@ abbrev pub document-bytes : List ℕ
 document-bytes = 18 ∷ 0 ∷ 0 ∷ 0 ∷ 1 ∷ 0 ∷ 255 ∷ 255 ∷ 1 ∷ 0 ∷ 232 ∷ 3 ∷ 0 ∷ 0 ∷ 255 ∷ 255 ∷ 2 ∷ 0 ∷ []
 
 abbrev pub document-fixes : List Fix
-document-fixes = record { t = 1000; x = negℤ (pos 1); y = pos 2 } ∷ []
+document-fixes = record { t = 1000; x = minus 1; y = pos 2 } ∷ []
 
 pub head-reads : length-field document-bytes ∷ kind-field document-bytes ∷ mark-field document-bytes ∷ count-field document-bytes ∷ [] ≡ 18 ∷ 1 ∷ 65535 ∷ 1 ∷ []
 unfolding number-at

@@ -2,10 +2,11 @@
 -- greatest tolerance applied, or 65,535 = never thinned), count n (2 bytes), then n fixes of 8 bytes: time (4), x (2), y (2, two's complement
 -- both). Length = 10 + 8n".
 use mathlib.Core.Bool.{cond}
-use mathlib.Core.List.{List, [], _∷_, _++_}
+use mathlib.Core.List.{List, [], _∷_, _++_, map}
 use Prim.Native.Nat.{ℕ, zero, suc, _+_, _*_}
 use lib.Dec.{ltb}
 use lib.ListN.{length}
+use lib.Seq.{sets}
 use Rattle.distance.specs.Fix.{Fix}
 use Rattle.format.specs.Bytes.{number-at, bytes-of, signed, unsigned}
 
@@ -78,3 +79,8 @@ header-bytes K mark n = bytes-of 4 (record-length K n) ++ (bytes-of 2 (K .code) 
 -- The record of a list of fixes and a mark.
 unfoldable pub record-bytes : Kind → (mark : ℕ) → List Fix → List ℕ
 record-bytes K mark l = header-bytes K mark (length l) ++ all-bytes K l
+
+-- ---- A RECORD WITH EACH FIX CHANGED BY f: the bytes of the new fixes stand in the place of the old ones', and all others are as they were, the head and what
+-- follows the record. (`sets b 10 l` puts l over b from byte 10 on, as far as b goes.)
+unfoldable pub changed : Kind → (Fix → Fix) → List ℕ → List ℕ
+changed K f b = sets b 10 (all-bytes K (map f (fixes K b)))

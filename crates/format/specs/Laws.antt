@@ -4,3 +4,4 @@ pub mod Numbers
 pub mod Stores
 pub mod Layout
 pub mod RoundTrip
+pub mod Changed

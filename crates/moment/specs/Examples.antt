@@ -1,55 +1,72 @@
--- THE PLACE IN NUMBERS. Bytes and moments, written out, and what document 01 says of them: the definitions and the code cannot be changed together without
+-- THE PLACE IN NUMBERS. Bytes and moments, written out, and what the papers say of them: the definitions and the code cannot be changed together without
 -- these rows. Each line is computed.
-use mathlib.Core.Path.{_≡_, refl}
-use mathlib.Core.List.{List, [], _∷_}
+use mathlib.Core.Path.{refl}
+use mathlib.Core.Bool.{true, false}
+use mathlib.Core.List.{List, [], _∷_, _++_}
 use Prim.Native.Nat.{ℕ}
-use lib.IntN.{ℤ, pos, negℤ}
+use lib.IntN.{pos}
+use Rattle.distance.specs.Examples.{Computes, minus}
 use Rattle.distance.specs.Fix.{last-of}
 use Rattle.distance.specs.Place.{own}
-use Rattle.format.specs.Bytes.{number-at, signed}
-use Rattle.format.specs.Format.{trail, fix-at, each}
-use Rattle.format.specs.Examples.{Computes}
+use Rattle.distance.specs.Rounding.{half-up, with-sign-of, rounded}
+use Rattle.distance.specs.Mirror.{Mirror}
+use Rattle.format.specs.Bytes.{number-at, bytes-of, signed, unsigned}
+use Rattle.format.specs.Format.{trail, fix-at, each, fix-bytes, all-bytes, changed}
 use Rattle.record.specs.Checks.{sentence, first, some-outside, some-early-after, some-early, of-ends}
 use Rattle.record.specs.Answers.{Answer, gives, turns-away}
 use Rattle.record.specs.Examples.{read-rows, on-refused}
-use Rattle.moment.specs.Rounding.{floored, rounded}
 use Rattle.moment.specs.Moment.{Standing, on-leg, moment-from, at-moment, place-answer}
+use Rattle.moment.specs.Mirror.{mirrored-record}
 
 -- The trail (1000,0,0) (1010,5,−5).
 abbrev pub place-trail : List ℕ
 place-trail = 26 ∷ 0 ∷ 0 ∷ 0 ∷ 1 ∷ 0 ∷ 255 ∷ 255 ∷ 2 ∷ 0 ∷ 232 ∷ 3 ∷ 0 ∷ 0 ∷ 0 ∷ 0 ∷ 0 ∷ 0 ∷ 242 ∷ 3 ∷ 0 ∷ 0 ∷ 5 ∷ 0 ∷ 251 ∷ 255 ∷ []
 
--- x and −x over 10,000, and the rounded place.
-abbrev pub opposite : (x rounded-x : ℕ) (rounded-y : ℤ) → Answer Standing
-opposite x rx ry = gives (record { exact = record { x = pos x; y = negℤ (pos x); d = pos 10000 }; rounded-x = pos rx; rounded-y = ry })
+-- x and −x over 10,000, and the rounded place, r and −r: the trail is as far from the aisle in y as in x, on the other side.
+abbrev pub opposite : (x r : ℕ) → Answer Standing
+opposite x r = gives (record { exact = record { x = pos x; y = minus x; d = pos 10000 }; rounded-x = pos r; rounded-y = minus r })
 
 -- A second and thousandths, and what is answered of that trail.
 abbrev pub moment-rows : List ((ℕ × ℕ) × Answer Standing)
 moment-rows =
     -- a moment at each end is the trail's
-    ((1000, 0), opposite 0 0 (pos 0))
-    ∷ ((1010, 0), opposite 50000 5 (negℤ (pos 5)))
+    ((1000, 0), opposite 0 0)
+    ∷ ((1010, 0), opposite 50000 5)
     -- 12. "The asked moment is before the first fix or after the last.": by a thousandth
     ∷ ((999, 999), turns-away 12)
     ∷ ((1010, 1), turns-away 12)
     -- 11. "The asked thousandths are above 999."
-    ∷ ((1000, 999), opposite 4995 0 (pos 0))
+    ∷ ((1000, 999), opposite 4995 0)
     ∷ ((1000, 1000), turns-away 11)
     -- 11 comes before 12, at both ends
     ∷ ((998, 1000), turns-away 11)
     ∷ ((1010, 1000), turns-away 11)
-    -- halves upward, on both sides of 0
-    ∷ ((1001, 0), opposite 5000 1 (pos 0))
-    ∷ ((1001, 1), opposite 5005 1 (negℤ (pos 1)))
+    -- halves away from 0, on both sides of it
+    ∷ ((1001, 0), opposite 5000 1)
+    ∷ ((1001, 1), opposite 5005 1)
+    ∷ ((1003, 0), opposite 15000 2)
     -- three different digits
-    ∷ ((1001, 234), opposite 6170 1 (negℤ (pos 1)))
+    ∷ ((1001, 234), opposite 6170 1)
     ∷ []
 
 pub moments-computed : Computes (λ (p : ℕ × ℕ). place-answer trail place-trail (p .0) (p .1)) moment-rows
-unfolding first sentence some-outside some-early-after some-early last-of of-ends fix-at each number-at signed at-moment moment-from on-leg own rounded floored
+unfolding first sentence some-outside some-early-after some-early last-of of-ends fix-at each number-at signed at-moment moment-from on-leg own rounded with-sign-of half-up
 moments-computed = refl
 
 -- What the reader refuses the place question refuses, 1 to 9, and before 11.
 pub place-refusals : Computes (λ (b : List ℕ). place-answer trail b 0 1000) (on-refused (λ b k. (b, turns-away k)) read-rows)
 unfolding first sentence some-outside some-early-after some-early last-of of-ends fix-at each number-at signed
 place-refusals = refl
+
+-- The trail mirrored, with two bytes more behind it: in x, in y, in both. The head and what follows the record are as they were.
+abbrev pub image-bytes : (x-low x-high y-low y-high : ℕ) → List ℕ
+image-bytes a b c d = 26 ∷ 0 ∷ 0 ∷ 0 ∷ 1 ∷ 0 ∷ 255 ∷ 255 ∷ 2 ∷ 0 ∷ 232 ∷ 3 ∷ 0 ∷ 0 ∷ 0 ∷ 0 ∷ 0 ∷ 0 ∷ 242 ∷ 3 ∷ 0 ∷ 0 ∷ a ∷ b ∷ c ∷ d ∷ 7 ∷ 9 ∷ []
+
+pub images-computed : Computes (λ (m : Mirror). mirrored-record trail m (place-trail ++ 7 ∷ 9 ∷ []))
+    ((record { in-x = false; in-y = false }, image-bytes 5 0 251 255)
+    ∷ (record { in-x = true; in-y = false }, image-bytes 251 255 251 255)
+    ∷ (record { in-x = false; in-y = true }, image-bytes 5 0 5 0)
+    ∷ (record { in-x = true; in-y = true }, image-bytes 251 255 5 0)
+    ∷ [])
+unfolding changed all-bytes fix-bytes bytes-of unsigned fix-at each number-at signed
+images-computed = refl

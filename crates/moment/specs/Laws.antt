@@ -1,6 +1,6 @@
 -- What is proved of the definitions, each law once.
-pub mod Rounding
 pub mod Moment
 pub mod Placing
+pub mod Mirror
 pub mod Ranges
 pub mod Walk

@@ -1,6 +1,6 @@
 -- What a reader must believe:
-pub mod Rounding
 pub mod Moment
+pub mod Mirror
 pub mod Answers
 -- rows of numbers, computed on those definitions:
 pub mod Examples

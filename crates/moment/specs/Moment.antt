@@ -7,10 +7,10 @@ use lib.IntN.{ℤ, pos, _+ℤ_, _-ℤ_, _*ℤ_}
 use Rattle.distance.specs.Fix.{Fix}
 use Rattle.distance.specs.Distance.{seconds}
 use Rattle.distance.specs.Place.{Place, own}
+use Rattle.distance.specs.Rounding.{rounded}
 use Rattle.format.specs.Format.{Kind, fixes}
 use Rattle.record.specs.Checks.{Given, asked-of, nothing, refusal, placing}
 use Rattle.record.specs.Answers.{Answer, answer}
-use Rattle.moment.specs.Rounding.{rounded}
 
 -- One axis: "numerator x_i·1000·D + (x_j − x_i)·(1000·(s − t_i) + m)".
 abbrev pub numerator : (i j D since : ℤ) (m : ℕ) → ℤ
@@ -34,7 +34,7 @@ unfoldable pub at-moment : List Fix → (s m : ℕ) → Place
 at-moment [] s m = record { x = pos 0; y = pos 0; d = pos 1 }
 at-moment (i ∷ l) s m = moment-from i l s m
 
--- The answer: the fraction, and "Beside it stands the rounded place".
+-- The answer: the fraction, and "Beside it stands the rounded place". (Document 02, item 1, of the rounding: "The fraction beside it is as before.")
 pub record Standing : Type 0 where
   pub exact : Place
   pub rounded-x : ℤ

@@ -10,11 +10,10 @@ ghost use Rattle.distance.specs.Fix.{fixOf};
 ghost use Rattle.distance.specs.Place.{own, leg, interpolated, place};
 ghost use Rattle.format.specs.Format.{trail, fixes};
 ghost use Rattle.record.specs.Checks.{IsAccepted};
-ghost use Rattle.moment.specs.Rounding.{floored, rounded};
 ghost use Rattle.moment.specs.Moment.{beside, place-answer};
 ghost use Rattle.moment.specs.Answers.{standing, placed};
 ghost use Rattle.moment.specs.Laws.Moment.{instant};
-ghost use Rattle.moment.specs.Laws.Ranges.{Short, Between, OnLeg, Reached};
+ghost use Rattle.moment.specs.Laws.Ranges.{OnLeg, Reached};
 
 // A place in whole centimetres.
 pub struct Whole {
@@ -48,26 +47,6 @@ fn instant_of(s: Seconds, m: u16) -> Instant
     Instant(1000 * (s.0 as u64) + (m as u64))
 }
 
-// The greatest whole number that is not above z/d.
-fn floored(z: i64, d: u32) -> Centimetres
-    requires { ⌜ Short z d ⌝ }
-    ensures { λ r. ⌜ r .0 ≡ floored z d ⌝ }
-{
-    let over = d as u64;
-    if z < 0 {
-        return Centimetres(-1 - (((-1 - z) as u64 / over) as i16));
-    }
-    Centimetres(((z as u64) / over) as i16)
-}
-
-// n/d rounded: the nearest whole number, halves upward.
-fn rounded(n: i64, d: Thousandths) -> Centimetres
-    requires { ⌜ Between n (d .0) ⌝ }
-    ensures { λ r. ⌜ r .0 ≡ rounded n (pos (d .0)) ⌝ }
-{
-    floored(2 * n + (d.0 as i64), 2 * d.0)
-}
-
 // One axis of a place: from i to j in `over` thousandths of a second, `gone` of them gone, over `over`.
 fn numerator(i: Centimetres, j: Centimetres, over: Thousandths, gone: Thousandths) -> i64
     ensures { λ r. ⌜ r ≡ interpolated (i .0) (j .0) (pos (over .0)) (pos (gone .0)) ⌝ }
@@ -88,8 +67,8 @@ fn on_leg(a: Fix, b: Fix, u: Instant) -> Spot
     let x = numerator(a.x, b.x, over, gone);
     let y = numerator(a.y, b.y, over, gone);
     let whole = Whole {
-        x: rounded(x, over),
-        y: rounded(y, over),
+        x: distance::rounded(x, over.0),
+        y: distance::rounded(y, over.0),
     };
     Spot {
         x,

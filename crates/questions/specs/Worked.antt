@@ -8,11 +8,13 @@ use mathlib.Core.Option.{Option, some, none}
 use Prim.Native.Nat.{ℕ, _*_, _≤_}
 use native.Mathlib.Omega.{arith}
 use lib.ListN.{length, take, drop}
-use lib.IntN.{ℤ, pos, negℤ}
+use lib.IntN.{ℤ, pos}
+use Rattle.distance.specs.Examples.{minus}
 use Rattle.distance.specs.Fix.{Fix, last-of}
 use Rattle.distance.specs.Distance.{deviation, allowance}
 use Rattle.distance.specs.Box.{Box, box-with}
 use Rattle.distance.specs.Place.{own}
+use Rattle.distance.specs.Rounding.{half-up, with-sign-of, rounded}
 use Rattle.format.specs.Bytes.{number-at, bytes-of, signed, unsigned}
 use Rattle.format.specs.Format.{trail, never, mark-field, record-length, fixes, fix-at, each, fix-bytes, all-bytes, header-bytes, record-bytes}
 use Rattle.record.specs.Checks.{first, sentence, some-outside, some-early, some-early-after, of-ends, read-refusal}
@@ -21,7 +23,6 @@ use Rattle.writing.specs.Writing.{write-refusal, written}
 use Rattle.thinning.specs.Thinning.{sooner, furthest, every, but-last, thin-span, thin, thinning}
 use Rattle.aging.specs.Aging.{by-tolerance, left-by, answered, new-mark, thinned-record}
 use Rattle.legs.specs.declared.Fraction.{Fraction}
-use Rattle.moment.specs.Rounding.{floored, rounded}
 use Rattle.moment.specs.Moment.{Standing, on-leg, moment-from, at-moment, place-answer}
 use Rattle.legs.specs.Legs.{later-of, earlier-of, first-of, axis-times, leg-times, leg-first}
 use Rattle.crossing.specs.Crossing.{first-from, first-crossing, cross-answer}
@@ -144,9 +145,6 @@ AllHold (r ∷ l) = Holds r × AllHold l
 abbrev pub fix : (t x y : ℕ) → Fix
 fix t x y = record { t = t; x = pos x; y = pos y }
 
-abbrev pub minus : ℕ → ℤ
-minus n = negℤ (pos n)
-
 abbrev pub keeps : (positions : List ℕ) (count mark : Option ℕ) → Answer Kept
 keeps ks c m = gives (record { positions = ks; count-given = c; mark-given = m })
 
@@ -172,6 +170,9 @@ trail-h = fix 0 0 0 ∷ fix 10 20 0 ∷ fix 20 20 0 ∷ fix 30 0 0 ∷ []
 
 abbrev pub trail-k : List Fix
 trail-k = fix 0 0 0 ∷ record { t = 10; x = pos 5; y = minus 5 } ∷ []
+
+abbrev pub image-k : List Fix
+image-k = fix 0 0 0 ∷ record { t = 10; x = minus 5; y = pos 5 } ∷ []
 
 abbrev pub trail-l : List Fix
 trail-l = fix 0 0 0 ∷ fix 10 100 0 ∷ []
@@ -205,8 +206,9 @@ rows =
     ∷ row trail-h (age-at (25 ∷ 12 ∷ [])) (keeps (0 ∷ 3 ∷ []) none (some 25))
     -- j | h's trail, 12 then 25 | 0, 3; mark 25
     ∷ row trail-h (age-at (12 ∷ 25 ∷ [])) (keeps (0 ∷ 3 ∷ []) none (some 25))
-    -- k | (0,0,0) (10,5,−5), moment 1.000 | 5000 and −5000 over 10000; rounded 1, 0
-    ∷ row trail-k (place-at 1 0) (stands-at (pos 5000) (minus 5000) (pos 10000) (pos 1) (pos 0))
+    -- k | (0,0,0) (10,5,−5), moment 1.000 | 5000 and −5000 over 10000; rounded 1, 0; and document 02, item 1: "Trail k then gives 1 and −1. The fraction
+    -- beside it is as before."
+    ∷ row trail-k (place-at 1 0) (stands-at (pos 5000) (minus 5000) (pos 10000) (pos 1) (minus 1))
     -- l | (0,0,0) (10,100,0), box x 33..40, y −5..5, window 0..10 | yes, 33/10
     ∷ row trail-l (cross box-l 0 10) (yes-at 33 10)
     ∷ []
@@ -232,6 +234,10 @@ rows-below =
     ∷ row (trail-k ++ fix 30 0 0 ∷ []) (place-at 10 0) (stands-at (pos 50000) (minus 50000) (pos 10000) (pos 5) (minus 5))
     -- and of a moment whose thousandths have three different digits, 1.234: 5·1234 over 10,000
     ∷ row trail-k (place-at 1 234) (stands-at (pos 6170) (minus 6170) (pos 10000) (pos 1) (minus 1))
+    -- and of document 02's item 1, "rounds halves away from zero": 1.5 and −1.5, and the trail mirrored in x and in y
+    ∷ row trail-k (place-at 3 0) (stands-at (pos 15000) (minus 15000) (pos 10000) (pos 2) (minus 2))
+    ∷ row image-k (place-at 1 0) (stands-at (minus 5000) (pos 5000) (pos 10000) (minus 1) (pos 1))
+    ∷ row image-k (place-at 3 0) (stands-at (minus 15000) (pos 15000) (pos 10000) (minus 2) (pos 2))
     ∷ []
 
 -- ---- both by computation, row by row
@@ -240,7 +246,7 @@ _and_ : {A B : Type 0} → A → B → A × B
 a and b = (a, b)
 
 pub worked : AllHold rows
-unfolding thinned-record new-mark thinning thin thin-span furthest sooner every but-last last-of deviation allowance first sentence some-outside some-early-after some-early of-ends fix-at each number-at signed unsigned bytes-of fix-bytes all-bytes header-bytes record-bytes at-moment moment-from on-leg own rounded floored first-crossing first-from leg-first leg-times axis-times first-of later-of earlier-of
+unfolding thinned-record new-mark thinning thin thin-span furthest sooner every but-last last-of deviation allowance first sentence some-outside some-early-after some-early of-ends fix-at each number-at signed unsigned bytes-of fix-bytes all-bytes header-bytes record-bytes at-moment moment-from on-leg own rounded with-sign-of half-up first-crossing first-from leg-first leg-times axis-times first-of later-of earlier-of
 worked =
     (refl, refl, tt)
     and (refl, refl, tt)
@@ -257,7 +263,7 @@ worked =
     and tt
 
 pub worked-below : AllHold rows-below
-unfolding thinned-record new-mark thinning thin thin-span furthest sooner every but-last last-of deviation allowance first sentence some-outside some-early-after some-early of-ends fix-at each number-at signed unsigned bytes-of fix-bytes all-bytes header-bytes record-bytes at-moment moment-from on-leg own rounded floored first-crossing first-from leg-first leg-times axis-times first-of later-of earlier-of
+unfolding thinned-record new-mark thinning thin thin-span furthest sooner every but-last last-of deviation allowance first sentence some-outside some-early-after some-early of-ends fix-at each number-at signed unsigned bytes-of fix-bytes all-bytes header-bytes record-bytes at-moment moment-from on-leg own rounded with-sign-of half-up first-crossing first-from leg-first leg-times axis-times first-of later-of earlier-of
 worked-below =
     record { same-value = refl; at-least = omega arith; at-most = omega arith }
     and tt
@@ -265,6 +271,9 @@ worked-below =
     and refl
     and tt
     and tt
+    and refl
+    and refl
+    and refl
     and refl
     and refl
     and refl

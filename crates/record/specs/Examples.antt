@@ -5,11 +5,12 @@ use mathlib.Core.List.{List, [], _∷_}
 use mathlib.Core.Option.{Option, some, none}
 use Prim.Native.Nat.{ℕ}
 use lib.ListN.{take}
-use lib.IntN.{pos, negℤ}
+use lib.IntN.{pos}
+use Rattle.distance.specs.Examples.{Computes, minus}
 use Rattle.distance.specs.Fix.{last-of}
 use Rattle.format.specs.Bytes.{number-at, signed}
 use Rattle.format.specs.Format.{trail, fix-at, each}
-use Rattle.format.specs.Examples.{Computes, document-bytes}
+use Rattle.format.specs.Examples.{document-bytes}
 use Rattle.record.specs.Checks.{first, sentence, some-outside, some-early-after, some-early, of-ends, read-refusal}
 use Rattle.record.specs.Answers.{gives, turns-away}
 use Rattle.record.specs.Reading.{filled, stands, yields, moves, begins, told-refusal, read-answer, times-read, xs-read, ys-read}
@@ -78,7 +79,7 @@ on-refused f ((b, none) ∷ rows) = on-refused f rows
 on-refused f ((b, some k) ∷ rows) = f b k ∷ on-refused f rows
 
 -- ---- a reader over document 01's 18 bytes yields "fix 1000 -1 2", and then none
-pub document-yields : yields trail document-bytes 0 ∷ yields trail document-bytes 1 ∷ [] ≡ some (record { t = 1000; x = negℤ (pos 1); y = pos 2 }) ∷ none ∷ []
+pub document-yields : yields trail document-bytes 0 ∷ yields trail document-bytes 1 ∷ [] ≡ some (record { t = 1000; x = minus 1; y = pos 2 }) ∷ none ∷ []
 unfolding yields stands fix-at number-at signed
 document-yields = refl
 
@@ -101,7 +102,7 @@ lent-short = take 25 lent-two
 pub two-read : (read-answer trail lent-two ≡ gives 2)
     × (times-read trail lent-two [] ≡ [])
     × (xs-read trail lent-two (pos 1 ∷ []) ≡ pos 7 ∷ [])
-    × (ys-read trail lent-two (pos 1 ∷ pos 2 ∷ pos 3 ∷ []) ≡ negℤ (pos 8) ∷ pos 10 ∷ pos 3 ∷ [])
+    × (ys-read trail lent-two (pos 1 ∷ pos 2 ∷ pos 3 ∷ []) ≡ minus 8 ∷ pos 10 ∷ pos 3 ∷ [])
 unfolding first sentence some-outside some-early-after some-early last-of of-ends fix-at each number-at signed filled
 two-read = (refl, refl, refl, refl)
 

@@ -6,4 +6,5 @@ pub mod Reading
 pub mod Columns
 pub mod Accepted
 pub mod Rest
+pub mod Changed
 pub mod Trail

@@ -1,12 +1,13 @@
 -- THE LISTING IN NUMBERS. Bytes, and the text that document 01 prints for them, each line in words above it (a `/` for its end) and in ASCII: the
 -- definitions and the code cannot be changed together without these rows. Each is computed.
-use mathlib.Core.Path.{_≡_, refl}
+use mathlib.Core.Path.{refl}
 use mathlib.Core.List.{List, [], _∷_}
 use Prim.Native.Nat.{ℕ, _+_}
+use Rattle.distance.specs.Examples.{Computes}
 use Rattle.distance.specs.Fix.{last-of}
 use Rattle.format.specs.Bytes.{number-at, signed}
 use Rattle.format.specs.Format.{trail, fix-at, each}
-use Rattle.format.specs.Examples.{Computes, document-bytes}
+use Rattle.format.specs.Examples.{document-bytes}
 use Rattle.record.specs.Checks.{first, sentence, some-outside, some-early-after, some-early, of-ends}
 use Rattle.record.specs.Examples.{read-rows, on-refused}
 use Rattle.text.specs.Text.{digits, decimal, integer, fix-line, fix-lines, mark-text, first-line, record-text, refusal-line, text}

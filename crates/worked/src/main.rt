@@ -1,6 +1,6 @@
 // Document 01's trails worked by hand, run through the calls that a line control makes: each is written as a record, and what is asked of it is asked of
-// the record's bytes. One line a row, to be laid beside the paper's table. Nothing here knows what the answers should be; specs/Worked.antt of the
-// questions layer proves them of the definitions.
+// the record's bytes. One line a row, to be laid beside the paper's table, whose row k document 02's item 1 has changed. Nothing here knows what the
+// answers should be; specs/Worked.antt of the questions layer proves them of the definitions.
 use aging::Aged;
 use crossing::Edge;
 use crossing::Edges;
@@ -152,7 +152,7 @@ fn apart(label: &[u8], seconds: u32) {
     table::word(b"\n");
 }
 
-// ---- the table; the line below it, and a moment whose thousandths have three different digits
+// ---- the table; the line below it, a moment whose thousandths have three different digits, and halves on both sides of 0
 
 fn thinned() {
     aged(b"a", trail_a(), &[0]);
@@ -176,13 +176,18 @@ fn beside() {
     apart(b"span", 65536);
     apart(b"equal times", 0);
     placed(b"k", trail_k(), 1, 234);
+    placed(b"k", trail_k(), 3, 0);
+    let image = record_of(&[0, 10], &[0, -5], &[0, 5]);
+    placed(b"k mirrored", image, 1, 0);
+    placed(b"k mirrored", image, 3, 0);
 }
 
 fn main() {
     table::word(b"Document 01, trails worked by hand: fixes (t,x,y), positions from 0.\n");
     table::word(
-        b"The count is the last aging's. A told time is in lowest terms, then as it was told.\n\n",
+        b"The count is the last aging's. A told time is in lowest terms, then as it was told.\n",
     );
+    table::word(b"Places are rounded as document 02's item 1 has it, halves away from 0.\n\n");
     thinned();
     placed(b"k", trail_k(), 1, 0);
     crossed(0, 10);

@@ -5,11 +5,12 @@ use mathlib.Core.List.{List, [], _∷_, _++_}
 use mathlib.Core.Option.{Option, some, none}
 use Prim.Native.Nat.{ℕ}
 use lib.ListN.{take}
-use lib.IntN.{ℤ, pos, negℤ}
+use lib.IntN.{ℤ, pos}
+use Rattle.distance.specs.Examples.{Computes, minus}
 use Rattle.distance.specs.Fix.{Fix, last-of}
 use Rattle.format.specs.Bytes.{bytes-of, unsigned}
 use Rattle.format.specs.Format.{trail, each, fix-bytes, all-bytes, header-bytes, record-bytes}
-use Rattle.format.specs.Examples.{Computes, document-bytes, document-fixes}
+use Rattle.format.specs.Examples.{document-bytes, document-fixes}
 use Rattle.record.specs.Checks.{first, sentence, some-outside, some-early-after, some-early, of-ends, refusal, writing}
 use Rattle.record.specs.Answers.{gives, turns-away}
 use Rattle.writing.specs.Writing.{asked-to-write, write-answer, written}
@@ -29,11 +30,11 @@ write-rows =
     ∷ ((each a-second-each 0 4096, 32778), none)
     ∷ ((each a-second-each 0 4097, 40000), some 3)
     -- 7. "Some x or y is outside −16,000 to 16,000."
-    ∷ ((a-fix 5 (pos 16000) (negℤ (pos 16000)) ∷ [], 18), none)
+    ∷ ((a-fix 5 (pos 16000) (minus 16000) ∷ [], 18), none)
     ∷ ((a-fix 5 (pos 16001) (pos 0) ∷ [], 18), some 7)
-    ∷ ((a-fix 5 (negℤ (pos 16001)) (pos 0) ∷ [], 18), some 7)
+    ∷ ((a-fix 5 (minus 16001) (pos 0) ∷ [], 18), some 7)
     ∷ ((a-fix 5 (pos 0) (pos 16001) ∷ [], 18), some 7)
-    ∷ ((a-fix 5 (pos 0) (negℤ (pos 16001)) ∷ [], 18), some 7)
+    ∷ ((a-fix 5 (pos 0) (minus 16001) ∷ [], 18), some 7)
     -- 8. "Some fix's time isn't later than the time before it."
     ∷ ((a-fix 5 (pos 0) (pos 0) ∷ a-fix 6 (pos 0) (pos 0) ∷ [], 26), none)
     ∷ ((a-fix 5 (pos 0) (pos 0) ∷ a-fix 5 (pos 0) (pos 0) ∷ [], 26), some 8)

@@ -1,4 +1,4 @@
-//! The place question: the fraction as document 01 has it, the rounded place beside it, and each refusal.
+//! The place question: the fraction as document 01 has it, the rounded place beside it, mirrored trails, and each refusal.
 #![forbid(unsafe_code)]
 
 use trails_tests::cases::{buffer, Random, Settings, Tally};
@@ -7,11 +7,12 @@ use trails_tests::plain::{Fix, MOST_FIXES};
 use trails_tests::questions::{asked_of_every_shape, place, refused_in_order, Moment};
 use trails_tests::shapes::{trail, SHAPES};
 
-/// The rounded number is the nearest one to n/d, and of two that are as near the upper.
+/// The rounded number is the nearest one to n/d, and of two that are as near the one further from 0.
 fn is_nearest(whole: i32, n: i64, d: u32, name: &str) {
     let (whole, n, d) = (i128::from(whole), i128::from(n), i128::from(d));
     let off = 2 * (whole * d - n);
-    assert!(-d < off && off <= d, "{name}: {whole} for {n} / {d}");
+    let further = off == n.signum() * d;
+    assert!(off.abs() < d || further, "{name}: {whole} for {n} / {d}");
 }
 
 /// What must hold of an answer that isn't a refusal, besides being as the plain version has it.
@@ -52,11 +53,11 @@ const WALLS: &[(u32, i16, i16)] = &[
 const LONE: &[(u32, i16, i16)] = &[(u32::MAX, 16_000, -16_000)];
 
 const ROWS: [Row; 14] = [
-    // document 01's trail k, where halves go upward on both sides of 0, and what is next to halves
-    row(K, (1, 0), (5_000, -5_000, 10_000), (1, 0)),
+    // document 01's trail k, where halves go away from 0 on both sides, and what is next to halves
+    row(K, (1, 0), (5_000, -5_000, 10_000), (1, -1)),
     row(K, (0, 999), (4_995, -4_995, 10_000), (0, 0)),
     row(K, (1, 1), (5_005, -5_005, 10_000), (1, -1)),
-    row(K, (3, 0), (15_000, -15_000, 10_000), (2, -1)),
+    row(K, (3, 0), (15_000, -15_000, 10_000), (2, -2)),
     row(K, (0, 0), (0, 0, 10_000), (0, 0)),
     row(K, (10, 0), (50_000, -50_000, 10_000), (5, -5)),
     // at a fix that two legs share, the leg is the one that ends there
@@ -128,7 +129,7 @@ fn every_fix_of_the_longest_trails_is_at_its_own_place() {
 
 /// Every half second of a short leg, where each place between two whole ones is a half somewhere.
 #[test]
-fn halves_go_upward() {
+fn halves_go_away_from_zero() {
     for d in 1..=12 {
         for x in -12..=12 {
             let fixes = [(7, 0, 1), (7 + d, x, 1 - x)].map(Fix::from);
@@ -145,6 +146,57 @@ fn halves_go_upward() {
     }
 }
 
+// ---- mirrored
+
+/// Which coordinates are mirrored: x, y.
+type Mirror = (bool, bool);
+
+const MIRRORS: [Mirror; 3] = [(true, false), (false, true), (true, true)];
+
+/// The record with each of its fixes mirrored, as far as fixes are lent. Two bytes have no opposite of −32,768, which is turned
+/// away: it stays.
+fn mirrored(record: &[u8], (in_x, in_y): Mirror) -> Vec<u8> {
+    let mut image = record.to_vec();
+    let count = record
+        .get(8..10)
+        .map_or(0, |n| u16::from_le_bytes([n[0], n[1]]));
+    let rest = image.get_mut(10..).unwrap_or_default();
+    for fix in rest.chunks_exact_mut(8).take(count.into()) {
+        for (at, is_mirrored) in [(4, in_x), (6, in_y)] {
+            if is_mirrored {
+                let z = i16::from_le_bytes([fix[at], fix[at + 1]]);
+                fix[at..at + 2].copy_from_slice(&z.wrapping_neg().to_le_bytes());
+            }
+        }
+    }
+    image
+}
+
+/// Of each mirrored record the answer is the mirrored one; of a refusal all else is 0, and stays.
+fn is_mirrored(answer: &Place, record: &[u8], moment: Moment, name: &str) {
+    for mirror in MIRRORS {
+        let side = |is_mirrored| if is_mirrored { -1 } else { 1 };
+        let (x, y) = (side(mirror.0), side(mirror.1));
+        let expected = Place {
+            x: i64::from(x) * answer.x,
+            y: i64::from(y) * answer.y,
+            whole_x: x * answer.whole_x,
+            whole_y: y * answer.whole_y,
+            ..*answer
+        };
+        let name = format!("{name}, {moment:?}, mirrored {mirror:?}");
+        let image = place(&mirrored(record, mirror), moment, &name);
+        assert_eq!(image, expected, "{name}");
+    }
+}
+
+#[test]
+fn a_mirrored_trail_has_the_mirrored_place() {
+    asked_of_every_shape(|_, bytes, moment: Moment, name| {
+        is_mirrored(&place(bytes, moment, name), bytes, moment, name);
+    });
+}
+
 #[test]
 fn each_refusal_is_given_in_order() {
     let mut tally = Tally::default();
@@ -159,6 +211,7 @@ fn each_refusal_is_given_in_order() {
             };
             assert_eq!(answer, nothing, "{name}, {moment:?}");
         }
+        is_mirrored(&answer, record, moment, name);
         refusal
     });
     tally.expect("place", &[1, 2, 3, 4, 5, 6, 7, 8, 9, 11, 12]);

@@ -22,11 +22,11 @@ const HELP: &str = "\
 usage: trail place [--json] FILE SECOND[.mmm]
 
 Prints where the cart was at a moment: x and y in whole centimetres, halves
-upward, and the same exactly, as fractions that aren't reduced. Then it says
-what that means of the original, the trail as the cart reported it, straight
-between its fixes: if FILE's trail was thinned, within how many centimetres of
-the exact place the original was at that moment. The mark is believed: of a
-record from elsewhere this holds if its mark is right.
+away from 0, and the same exactly, as fractions that aren't reduced. Then it
+says what that means of the original, the trail as the cart reported it,
+straight between its fixes: if FILE's trail was thinned, within how many
+centimetres of the exact place the original was at that moment. The mark is
+believed: of a record from elsewhere this holds if its mark is right.
 
   --json   print one line: {\"file\", \"x\", \"y\",
            \"exact\": {\"x\", \"y\", \"denominator\"}, \"mark\", \"means\"}

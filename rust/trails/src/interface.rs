@@ -64,9 +64,9 @@ pub struct Place {
     pub x: i64,
     /// Centimetres times the denominator.
     pub y: i64,
-    /// x in whole centimetres, halves upward.
+    /// x in whole centimetres, halves away from 0.
     pub whole_x: i32,
-    /// y in whole centimetres, halves upward.
+    /// y in whole centimetres, halves away from 0.
     pub whole_y: i32,
 }
 

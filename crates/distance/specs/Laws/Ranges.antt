@@ -1,16 +1,21 @@
 -- What the functions ask of 16 and 64 bits, one list of facts for each function, proved once.
 use mathlib.Core.Path.{_≡_, refl, ap}
+use mathlib.Core.Bool.{true, false}
 use Prim.Native.Nat.{ℕ, _+_, _*_, _≤_, _<_}
-use native.Mathlib.Nat.{mul-le-mul}
+use native.Mathlib.Nat.{mul-le-mul, div-lt-iff-lt-mul}
 use native.Mathlib.Omega.{arith}
 use lib.Dec.{T}
-use lib.IntN.{ℤ, natAbs, pos, _+ℤ_, _-ℤ_, _*ℤ_}
-use lib.Signed.{nonNeg}
-use mir.Syntax.{w16, w64}
+use lib.IntN.{ℤ, natAbs, pos, negsuc, _+ℤ_, _-ℤ_, _*ℤ_}
+use lib.Signed.{nonNeg, ltZ, ltZ-yes, _≤ℤ_, _<ℤ_}
+use mir.Syntax.{w16, w32, w64}
 use mir.Val.{Fits, SFits, toZ}
-use mir.Facts.{toZ-ofZ}
+use mir.Facts.{toZ-ofZ, toZ-pos}
 use Rattle.distance.specs.Distance.{N, squared}
+use Rattle.distance.specs.Rounding.{half-up, with-sign-of, rounded}
+use Rattle.distance.specs.Span.{Roundable}
 use Rattle.distance.specs.Laws.Deviation.{squared-is}
+use Rattle.distance.specs.Integers.Differences.{diffs}
+use Rattle.distance.specs.Integers.Order.{le-of-ltZ}
 use Rattle.distance.specs.Integers.Bounds.{Bound, _⊕_, _⊝_, _⊛_, of-width, fits}
 
 -- a duration is a number of 16 bits
@@ -98,3 +103,65 @@ reach-fits e d f g =
 
 pub square-of-product : (e d : ℕ) (D : ℤ) → pos d ≡ D → e * d * (e * d) ≡ e * e * squared D
 square-of-product e d D h = rw (← h) (omega arith)
+
+-- ---- rounding. The magnitude of a number of 64 bits that isn't the least: below 0 it is 0 − z, ..
+pub record Negated (z : ℤ) : Type 0 where
+  pub less : SFits w64 (pos 0 -ℤ z)
+  pub unsigned : T (nonNeg (pos 0 -ℤ z))
+  pub word : Fits w64 (natAbs (pos 0 -ℤ z))
+  pub is : natAbs (pos 0 -ℤ z) ≡ natAbs z
+
+pub negated : (z : ℤ) → natAbs z ≤ 9223372036854775807 → ltZ z (pos 0) ≡ true → Negated z
+negated (pos n) h t = absurd (let g : pos n <ℤ pos 0 = ltZ-yes (rw t tt) in omega (arith, simp diffs at g))
+negated (negsuc n) h t = record { less = record { sfits = omega arith }; unsigned = tt; word = record { fits = omega arith }; is = omega arith }
+
+-- .. and else z itself
+pub record NotNegative (z : ℤ) : Type 0 where
+  pub unsigned : T (nonNeg z)
+  pub word : Fits w64 (natAbs z)
+
+pub not-negative : (z : ℤ) → natAbs z ≤ 9223372036854775807 → ltZ z (pos 0) ≡ false → NotNegative z
+not-negative (pos n) h t = record { unsigned = tt; word = record { fits = omega arith } }
+not-negative (negsuc n) h t = absurd (let g : pos 0 ≤ℤ negsuc n = le-of-ltZ t in g .le)
+
+-- n/d rounded fits 16 bits, on either side of 0
+half-up-small : (n d : ℕ) → 1 ≤ d → n ≤ 32767 * d → half-up n d < 32768
+unfolding half-up
+half-up-small n d one h = div-lt-iff-lt-mul (let two : 0 < 2 * d = omega arith in two) .1 (omega arith)
+
+pub record HalfUpFits (n d : ℕ) : Type 0 where
+  pub whole16 : SFits w16 (pos (half-up n d))
+  pub plain : toZ w16 (half-up n d) ≡ pos (half-up n d)
+
+pub half-up-fits : {n d : ℕ} → Roundable (pos n) d → HalfUpFits n d
+half-up-fits {n} {d} h = let q = half-up-small n d (h .some) (h .below) in record { whole16 = record { sfits = q }; plain = toZ-pos w16 q }
+
+pub record RoundedFits (n : ℤ) (d : ℕ) : Type 0 where
+  pub n64 : SFits w64 n
+  pub opposite-fits : natAbs n ≤ 9223372036854775807
+  pub roundable : Roundable (pos (natAbs n)) d
+  pub less16 : SFits w16 (pos 0 -ℤ pos (half-up (natAbs n) d))
+
+pub rounded-fits : {n : ℤ} {d : ℕ} → Fits w32 d → Roundable n d → RoundedFits n d
+rounded-fits {n} {d} f h =
+    let small = half-up-small (natAbs n) d (h .some) (h .below) in
+    let bn : Bound n = record { top = 140733193388032; holds = omega (arith, h .below, f .fits) } in
+    let zero : Bound (pos 0) = record { top = 0; holds = omega arith } in
+    let whole : Bound (pos (half-up (natAbs n) d)) = record { top = 32767; holds = omega arith } in
+    record {
+      n64 = fits w64 bn tt;
+      opposite-fits = omega (arith, bn .holds);
+      roundable = record { some = h .some; below = h .below };
+      less16 = fits w16 (zero ⊝ whole) tt;
+    }
+
+-- what is then said: the sign of n
+pub below-rounded : (n : ℤ) (d : ℕ) → ltZ n (pos 0) ≡ true → pos 0 -ℤ pos (half-up (natAbs n) d) ≡ rounded n (pos d)
+unfolding rounded with-sign-of
+below-rounded (pos n) d t = absurd (let g : pos n <ℤ pos 0 = ltZ-yes (rw t tt) in omega (arith, simp diffs at g))
+below-rounded (negsuc n) d t = simp diffs
+
+pub above-rounded : (n : ℤ) (d : ℕ) → ltZ n (pos 0) ≡ false → pos (half-up (natAbs n) d) ≡ rounded n (pos d)
+unfolding rounded with-sign-of
+above-rounded (pos n) d t = refl
+above-rounded (negsuc n) d t = absurd (let g : pos 0 ≤ℤ negsuc n = le-of-ltZ t in g .le)

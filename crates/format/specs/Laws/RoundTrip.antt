@@ -2,7 +2,7 @@
 -- own bytes.
 use mathlib.Core.Path.{_≡_, refl, sym, _∙_, ap}
 use mathlib.Core.Bool.{Bool}
-use mathlib.Core.List.{List, [], _∷_, _++_, append-assoc}
+use mathlib.Core.List.{List, [], _∷_, _++_, map, append-assoc}
 use Prim.Native.Nat.{ℕ, zero, suc, _+_, _*_, _-_, _/_, _%_, _^_, _<_, _≤_}
 use native.Mathlib.Nat.{pow-suc}
 use native.Mathlib.Numerals.{add-one}
@@ -13,7 +13,7 @@ use lib.IntN.{ℤ, pos, negsuc}
 use mir.Syntax.{w16}
 use mir.Val.{SFits}
 use Rattle.distance.specs.Fix.{Fix}
-use Rattle.distance.specs.Laws.All.{All, all-none, all-more, all-append}
+use Rattle.distance.specs.Laws.All.{All, all-none, all-more, all-append, all-map}
 use Rattle.distance.specs.Integers.Tests.{Test, holds, fails, test}
 use Rattle.format.specs.Bytes.{number-at, bytes-of, signed, unsigned}
 use Rattle.format.specs.Format.{trail, each, fix-at, fix-bytes, all-bytes, header-bytes, record-bytes, length-field, kind-field, mark-field, count-field, fixes}
@@ -61,27 +61,41 @@ pub record InRange (f : Fix) : Type 0 where
   pub x16 : SFits w16 (f .x)
   pub y16 : SFits w16 (f .y)
 
-pub read-fix : (p r : List ℕ) (k : ℕ) (f : Fix) → length p ≡ 10 + 8 * k → InRange f → fix-at trail (p ++ (fix-bytes trail f ++ r)) k ≡ f
+-- its numbers have room in its bytes, ..
+pub record Storable (f : Fix) : Type 0 where
+  pub t-fits : f .t < 4294967296
+  pub x-fits : unsigned 2 (f .x) < 65536
+  pub y-fits : unsigned 2 (f .y) < 65536
+
+-- .. which then say it, but for a coordinate that isn't in range: of that two's complement says another
+abbrev pub said : Fix → Fix
+said f = record { t = f .t; x = signed 2 (unsigned 2 (f .x)); y = signed 2 (unsigned 2 (f .y)) }
+
+storable : (f : Fix) → InRange f → Storable f
+storable f h = record { t-fits = h .t32; x-fits = coordinate (f .x) (h .x16) .small; y-fits = coordinate (f .y) (h .y16) .small }
+
+pub said-itself : (f : Fix) → SFits w16 (f .x) → SFits w16 (f .y) → said f ≡ f
+said-itself f hx hy = rw (coordinate (f .x) hx .back, coordinate (f .y) hy .back) refl
+
+read-fix : (p r : List ℕ) (k : ℕ) (f : Fix) → length p ≡ 10 + 8 * k → Storable f → fix-at trail (p ++ (fix-bytes trail f ++ r)) k ≡ said f
 unfolding fix-bytes
 read-fix p r k f len h =
     let T = bytes-of 4 (f .t) in
     let X = bytes-of 2 (unsigned 2 (f .x)) in
     let Y = bytes-of 2 (unsigned 2 (f .y)) in
-    let cx = coordinate (f .x) (h .x16) in
-    let cy = coordinate (f .y) (h .y16) in
     let b = p ++ ((T ++ (X ++ Y)) ++ r) in
     let et : b ≡ p ++ (T ++ ((X ++ Y) ++ r)) = simp append-assoc in
     let ex : b ≡ (p ++ T) ++ (X ++ (Y ++ r)) = simp append-assoc in
     let ey : b ≡ ((p ++ T) ++ X) ++ (Y ++ r) = simp append-assoc in
     let lt : length (p ++ T) ≡ 10 + 8 * k + 4 = length-append p T ∙ rw (len, length-bytes 4 (f .t)) refl in
     let lx : length ((p ++ T) ++ X) ≡ 10 + 8 * k + 6 = length-append (p ++ T) X ∙ rw (lt, length-bytes 2 (unsigned 2 (f .x))) (omega arith) in
-    sym (fix-parts b k (f .t) (f .x) (f .y)
-    (sym (read-at b p _ (10 + 8 * k) 4 (f .t) et (sym len) (h .t32)))
-    (sym (ap (signed 2) (read-at b (p ++ T) _ (10 + 8 * k + 4) 2 (unsigned 2 (f .x)) ex (sym lt) (cx .small)) ∙ cx .back))
-    (sym (ap (signed 2) (read-at b ((p ++ T) ++ X) _ (10 + 8 * k + 6) 2 (unsigned 2 (f .y)) ey (sym lx) (cy .small)) ∙ cy .back)))
+    sym (fix-parts b k (f .t) (signed 2 (unsigned 2 (f .x))) (signed 2 (unsigned 2 (f .y)))
+    (sym (read-at b p _ (10 + 8 * k) 4 (f .t) et (sym len) (h .t-fits)))
+    (sym (ap (signed 2) (read-at b (p ++ T) _ (10 + 8 * k + 4) 2 (unsigned 2 (f .x)) ex (sym lt) (h .x-fits))))
+    (sym (ap (signed 2) (read-at b ((p ++ T) ++ X) _ (10 + 8 * k + 6) 2 (unsigned 2 (f .y)) ey (sym lx) (h .y-fits)))))
 
 -- ---- a list of fixes
-pub read-fixes : (p r : List ℕ) (k : ℕ) {l : List Fix} → length p ≡ 10 + 8 * k → All InRange l → each (fix-at trail (p ++ (all-bytes trail l ++ r))) k (length l) ≡ l
+pub read-fixes : (p r : List ℕ) (k : ℕ) {l : List Fix} → length p ≡ 10 + 8 * k → All Storable l → each (fix-at trail (p ++ (all-bytes trail l ++ r))) k (length l) ≡ map said l
 unfolding each all-bytes
 read-fixes p r k len all-none = refl
 read-fixes p r k len (all-more {m = f} {l} h t) =
@@ -90,7 +104,11 @@ read-fixes p r k len (all-more {m = f} {l} h t) =
     let e : p ++ ((F ++ M) ++ r) ≡ p ++ (F ++ (M ++ r)) = simp append-assoc in
     let g : p ++ ((F ++ M) ++ r) ≡ (p ++ F) ++ (M ++ r) = simp append-assoc in
     let n : length (p ++ F) ≡ 10 + 8 * suc k = length-append p F ∙ rw (len, length-fix-bytes f) (omega arith) in
-    rw (ap (λ (b : List ℕ). fix-at trail b k) e ∙ read-fix p (M ++ r) k f len h, g) (ap (λ (m : List Fix). f ∷ m) (read-fixes (p ++ F) r (suc k) n t))
+    rw (ap (λ (b : List ℕ). fix-at trail b k) e ∙ read-fix p (M ++ r) k f len h, g) (ap (λ (m : List Fix). said f ∷ m) (read-fixes (p ++ F) r (suc k) n t))
+
+all-said : {l : List Fix} → All InRange l → map said l ≡ l
+all-said all-none = refl
+all-said (all-more {m = f} {l} h t) = rw (said-itself f (h .x16) (h .y16), all-said t) refl
 
 -- ---- a whole record, with other bytes after it
 pub record Reads (mark : ℕ) (l : List Fix) (b : List ℕ) : Type 0 where
@@ -125,7 +143,7 @@ read-record mark l r marked few h =
       kind-reads = read-at b L _ 4 2 1 ek (sym nl) (omega arith);
       mark-reads = read-at b (L ++ K) _ 6 2 mark em (sym nk) marked;
       count-reads = count;
-      fixes-read = ap (each (fix-at trail b) 0) count ∙ ap (λ (c : List ℕ). each (fix-at trail c) 0 (length l)) ef ∙ read-fixes head r 0 nh h;
+      fixes-read = ap (each (fix-at trail b) 0) count ∙ ap (λ (c : List ℕ). each (fix-at trail c) 0 (length l)) ef ∙ read-fixes head r 0 nh (all-map storable h) ∙ all-said h;
     }
 
 -- ---- THE OTHER WAY: bytes read and written again are the same bytes. Each is below 256, as a lent byte is.

@@ -1,7 +1,7 @@
 -- Runs of stores (`sets` of the library): one after another, what stands beyond them, and numbers stored and read again.
 use mathlib.Core.Path.{_≡_, refl, _∙_, ap}
 use mathlib.Core.List.{List, [], _∷_, _++_}
-use Prim.Native.Nat.{ℕ, zero, suc, _+_, _*_, _/_, _%_, _≤_}
+use Prim.Native.Nat.{ℕ, zero, suc, _+_, _*_, _/_, _%_, _<_, _≤_}
 use native.Mathlib.Numerals.{add-one, add-two, add-three}
 use native.Mathlib.Omega.{arith}
 use lib.ListN.{length, getD, drop, set}
@@ -15,7 +15,16 @@ pub sets-append : (b : List ℕ) (at : ℕ) (l m : List ℕ) → sets (sets b at
 sets-append b at [] m = let e : at + 0 ≡ at = omega arith in rw e refl
 sets-append b at (x ∷ l) m = let e : at + suc (length l) ≡ suc at + length l = omega arith in rw e (sets-append (set b at x) (suc at) l m)
 
--- beyond a run everything is as before
+-- before a run and beyond it everything is as before
+pub sets-before : (b : List ℕ) (at : ℕ) (l : List ℕ) (i : ℕ) → i < at → getD (sets b at l) i 0 ≡ getD b i 0
+sets-before b at [] i h = refl
+sets-before b at (x ∷ l) i h = sets-before (set b at x) (suc at) l i (omega arith) ∙ getD-set-other b at i x 0 (λ e. omega arith)
+
+pub number-before : (b : List ℕ) (at : ℕ) (l : List ℕ) (i size : ℕ) → i + size ≤ at → number-at (sets b at l) i size ≡ number-at b i size
+unfolding number-at
+number-before b at l i zero h = refl
+number-before b at l i (suc size) h = rw (sets-before b at l i (omega arith), number-before b at l (suc i) size (omega arith)) refl
+
 pub sets-beyond : (b : List ℕ) (at : ℕ) (l : List ℕ) (i : ℕ) → at + length l ≤ i → getD (sets b at l) i 0 ≡ getD b i 0
 sets-beyond b at [] i h = refl
 sets-beyond b at (x ∷ l) i h = sets-beyond (set b at x) (suc at) l i (omega arith) ∙ getD-set-other b at i x 0 (λ e. omega arith)

@@ -1,7 +1,7 @@
 use mir.Facts.{toZ-ofZ}
 use Rattle.distance.specs.Place.{own}
+use Rattle.distance.specs.Laws.Rounding.{rounded-whole}
 use Rattle.moment.specs.Laws.Ranges.{AloneFits, alone-fits}
-use Rattle.moment.specs.Laws.Rounding.{rounded-whole}
 use borrow.Author.Needs.{needs}
 use Rattle.moment.proofs.alone.Statement.{statement}
 use Rattle.moment.proofs.alone.Tie as tie

@@ -1,8 +1,10 @@
 use mathlib.Core.Path.{_≡_, refl}
 use Prim.Native.Nat.{ℕ, _+_, _*_, _-_}
 use mir.Facts.{toZ-ofZ}
-use Rattle.moment.specs.Rounding.{rounded}
-use Rattle.moment.specs.Laws.Ranges.{Between, between-x, between-y, rounded-fits, leg-standing}
+use mir.Syntax.{w64}
+use mir.Val.{SFits}
+use Rattle.distance.specs.Span.{Roundable}
+use Rattle.moment.specs.Laws.Ranges.{roundable-x, roundable-y, leg-standing}
 use borrow.Author.Needs.{needs}
 use Rattle.moment.proofs.on_leg.Statement.{statement}
 use Rattle.moment.proofs.on_leg.Tie as tie
@@ -20,11 +22,11 @@ over-is c = rw (c .before .before .before .before .instant-of2 .ensures, c .befo
 gone-is : (c : tie.After-struct-known4) → gone c ≡ c .before .before .before .before .before .before .args .u .0 - (1000 * c .before .before .before .before .before .before .args .a .t .0 + 0)
 gone-is c = rw (c .before .before .before .before .before .instant-of .ensures) refl
 
-within-x : (c : tie.After-numerator2) → Between (c .before .numerator .result) (over (c .before .before))
-within-x c = between-x (c .before .before .before .before .before .before .before .before .pre) _ _ (over-is (c .before .before)) (gone-is (c .before .before)) _ (c .before .numerator .ensures)
+within-x : (c : tie.After-numerator2) → Roundable (c .before .numerator .result) (over (c .before .before))
+within-x c = roundable-x (c .before .before .before .before .before .before .before .before .pre) _ _ (over-is (c .before .before)) (gone-is (c .before .before)) _ (c .before .numerator .ensures)
 
-within-y : (c : tie.After-numerator2) → Between (c .numerator2 .result) (over (c .before .before))
-within-y c = between-y (c .before .before .before .before .before .before .before .before .pre) _ _ (over-is (c .before .before)) (gone-is (c .before .before)) _ (c .numerator2 .ensures)
+within-y : (c : tie.After-numerator2) → Roundable (c .numerator2 .result) (over (c .before .before))
+within-y c = roundable-y (c .before .before .before .before .before .before .before .before .pre) _ _ (over-is (c .before .before)) (gone-is (c .before .before)) _ (c .numerator2 .ensures)
 
 instant-of-requires : tie.Need-instant-of-requires
 instant-of-requires c κs = search needs
@@ -50,20 +52,27 @@ numerator-requires c κs = search needs
 numerator-requires-2 : tie.Need-numerator-requires-2
 numerator-requires-2 c κs = search needs
 
+-- the numerators fit 64 bits, as what a function of that type gives
+x-fits : (c : tie.After-numerator2) → SFits w64 (c .before .numerator .result)
+x-fits c = search needs
+
+y-fits : (c : tie.After-numerator2) → SFits w64 (c .numerator2 .result)
+y-fits c = search needs
+
 rounded-requires : tie.Need-rounded-requires
-rounded-requires c κs = let k = rounded-fits (within-x c) in simp (toZ-ofZ, k .n64) (within-x c)
+rounded-requires c κs = let k = x-fits c in simp (toZ-ofZ, k) (within-x c)
 
 rounded-requires-2 : tie.Need-rounded-requires-2
-rounded-requires-2 c κs = let k = rounded-fits (within-y (c .before)) in simp (toZ-ofZ, k .n64) (within-y (c .before))
+rounded-requires-2 c κs = let k = y-fits (c .before) in simp (toZ-ofZ, k) (within-y (c .before))
 
 returns : tie.Need-returns
 returns c =
     let s = c .before .before in
-    let x = rounded-fits (within-x s) in
-    let y = rounded-fits (within-y s) in
-    simp (toZ-ofZ, x .n64, y .n64)
+    let x = x-fits s in
+    let y = y-fits s in
+    simp (toZ-ofZ, x, y)
     (leg-standing (s .before .before .before .before .before .before .before .before .pre) _ _ (over-is (s .before .before)) (gone-is (s .before .before)) _ _ _ _ (s .before .numerator .ensures) (s .numerator2 .ensures)
-    (simp (toZ-ofZ, x .n64) at (c .before .rounded .ensures)) (simp (toZ-ofZ, y .n64) at (c .rounded2 .ensures)))
+    (simp (toZ-ofZ, x) at (c .before .rounded .ensures)) (simp (toZ-ofZ, y) at (c .rounded2 .ensures)))
 
 pub on-leg-spec : {M : Type 1} → statement M
 on-leg-spec =

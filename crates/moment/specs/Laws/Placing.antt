@@ -10,7 +10,9 @@ use lib.Signed.{_≤ℤ_}
 use borrow.Author.Tests.{lt-ltb, le-ltb}
 use Rattle.distance.specs.Fix.{Fix}
 use Rattle.distance.specs.Place.{Place, Proper, place}
+use Rattle.distance.specs.Rounding.{rounded, Nearest}
 use Rattle.distance.specs.Laws.Place.{place-proper}
+use Rattle.distance.specs.Laws.Rounding.{rounded-nearest}
 use Rattle.distance.specs.Integers.Order.{pos-le}
 use Rattle.format.specs.Format.{trail, fix-at, count-field, fixes}
 use Rattle.record.specs.Checks.{Check, bad-thousandths, bad-moment, first, sentence, asked-of, head-checks, fix-checks, read-refusal, IsAccepted, refusal, placing, moment-outside}
@@ -18,21 +20,24 @@ use Rattle.record.specs.Answers.{gives, turns-away, answer}
 use Rattle.record.specs.Laws.First.{stops, passes, first-none, some-first, none-first, none-front, reading-alone}
 use Rattle.record.specs.Laws.Accepted.{accepted-good, times-good}
 use Rattle.moment.specs.Moment.{asked-moment, at-moment, beside, place-answer, Standing}
-use Rattle.moment.specs.Rounding.{rounded, Nearest}
-use Rattle.moment.specs.Laws.Rounding.{rounded-nearest}
 use Rattle.moment.specs.Laws.Moment.{moment, moment-is}
 use Rattle.record.specs.Laws.Trail.{ends-are}
 
-module _ (b : List ℕ) (s m : ℕ) where
-  abbrev asks : Check → Bool
-  asks = sentence trail (asked-of trail b (asked-moment s m))
+-- those of the question itself
+abbrev pub own-checks : List Check
+own-checks = bad-thousandths ∷ bad-moment ∷ []
 
-  abbrev own-checks : List Check
-  own-checks = bad-thousandths ∷ bad-moment ∷ []
+module _ (b : List ℕ) (s m : ℕ) where
+  abbrev pub asks : Check → Bool
+  asks = sentence trail (asked-of trail b (asked-moment s m))
 
   -- one of checks 1 to 9 turns the bytes away
   pub place-refused : (k : ℕ) → read-refusal trail b ≡ some k → place-answer trail b s m ≡ turns-away k
   place-refused k h = rw (some-first asks (head-checks ++ fix-checks) own-checks k (reading-alone trail b (asked-moment s m) ∙ h)) refl
+
+  -- if no check does, the record is accepted
+  pub none-accepted : refusal trail placing (asked-of trail b (asked-moment s m)) ≡ none → IsAccepted trail b
+  none-accepted h = record { accepted = sym (reading-alone trail b (asked-moment s m)) ∙ none-front asks (head-checks ++ fix-checks) own-checks h }
 
   module _ (accepted : IsAccepted trail b) where
     left : first asks ((head-checks ++ fix-checks) ++ own-checks) ≡ first asks own-checks
@@ -100,9 +105,7 @@ place-means b s m a h = go (refusal trail placing (asked-of trail b (asked-momen
     go : (r : Option ℕ) → refusal trail placing (asked-of trail b (asked-moment s m)) ≡ r → answer r (beside (at-moment (fixes trail b) s m)) ≡ gives a → Stands (fixes trail b) s m a
     go (some k) n q = absurd (never-given q)
     go none n q =
-        let says = sentence trail (asked-of trail b (asked-moment s m)) in
-        let accepted : IsAccepted trail b = record { accepted = sym (reading-alone trail b (asked-moment s m)) ∙ none-front says (head-checks ++ fix-checks) (bad-thousandths ∷ bad-moment ∷ []) n } in
-        let good = accepted-good b accepted in
+        let good = accepted-good b (none-accepted b s m n) in
         let rises = times-good (fixes trail b) (good .trail-good .ordered) in
         let e = moment-is (fixes trail b) s m in
         rw (← given-is q) (stands (at-moment (fixes trail b) s m) (rw e (place-proper (moment s m) rises)) e)

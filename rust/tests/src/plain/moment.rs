@@ -45,9 +45,10 @@ impl Whereabouts {
     }
 }
 
-/// "the nearest whole number, halves upward": the greatest that isn't above n/d + 1/2.
+/// "the nearest whole number", and of document 02's item 1 "halves away from zero": n/d and a half more on its own side of 0,
+/// cut off towards 0.
 fn rounded(n: i128, d: i128) -> i128 {
-    (2 * n + d).div_euclid(2 * d)
+    (2 * n + n.signum() * d) / (2 * d)
 }
 
 fn thousandths_of(fix: Fix) -> i128 {

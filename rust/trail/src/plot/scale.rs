@@ -27,6 +27,10 @@ impl Stretch {
         self.high - self.low
     }
 
+    fn middle(&self) -> f64 {
+        (self.low + self.high) / 2.0
+    }
+
     /// The same middle, and at least this length.
     pub fn at_least(self, length: f64) -> Stretch {
         self.wider((length - self.length()).max(0.0) / 2.0)
@@ -63,15 +67,21 @@ pub struct Axis {
 }
 
 impl Axis {
-    /// Where a value is drawn. A stretch of an axis is never empty.
+    /// How far a length of 1 reaches in the picture; below 0 where values grow upward. A stretch of an axis is never empty.
+    fn scale(&self) -> f64 {
+        (self.to - self.from) / self.stretch.length().max(f64::MIN_POSITIVE)
+    }
+
+    /// Where a value is drawn, to a tenth, as a picture's numbers are written. It is counted from the middle, and halves go away
+    /// from it, so that a mirrored trail is drawn mirrored, to the last digit.
     pub fn at(&self, value: f64) -> f64 {
-        let share = (value - self.stretch.low) / self.stretch.length().max(f64::MIN_POSITIVE);
-        self.from + share * (self.to - self.from)
+        let off = (value - self.stretch.middle()) * self.scale();
+        (self.from + self.to) / 2.0 + (10.0 * off).round() / 10.0
     }
 
     /// How much room a length takes.
     pub fn room(&self, length: f64) -> f64 {
-        (self.at(length) - self.at(0.0)).abs()
+        (length * self.scale()).abs()
     }
 }
 
@@ -117,5 +127,7 @@ mod tests {
             (100.0, 50.0, 0.0)
         );
         assert_eq!(axis.room(4.0), 20.0);
+        // halves of a tenth, on both sides of the middle
+        assert_eq!((axis.at(0.01), axis.at(-0.01)), (49.9, 50.1));
     }
 }

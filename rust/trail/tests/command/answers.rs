@@ -70,7 +70,7 @@ fn place_answers_rounded_and_exactly() {
     // document 01's trail k
     folder.put("k", record(&[(0, 0, 0), (10, 5, -5)]));
     folder.run(&["place", "k", "1.000"]).says(&format!(
-        "place 1 0\nexact 5000/10000 -5000/10000\n{NEVER}\n"
+        "place 1 -1\nexact 5000/10000 -5000/10000\n{NEVER}\n"
     ));
     folder.run(&["place", "k", "10"]).says(&format!(
         "place 5 -5\nexact 50000/10000 -50000/10000\n{NEVER}\n"

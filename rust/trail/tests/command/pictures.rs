@@ -1,7 +1,8 @@
 //! `plot`: what a picture has, and what is refused.
 
-use trails_tests::plain::{self, NEVER};
-use trails_tests::shapes::curve;
+use trails_tests::cases::Random;
+use trails_tests::plain::{self, Fix, NEVER};
+use trails_tests::shapes::{curve, trail, Shape};
 
 use crate::folder::{record, trail_h, trail_h_at_12, Folder};
 
@@ -96,6 +97,49 @@ fn small_and_great_trails_are_drawn() {
     assert_eq!(count(&draw(&folder, "long"), "fix"), 3 * 4_096 + 1);
     let picture = draw(&folder, "one --original long");
     assert_eq!(count(&picture, "original"), 3 + 1);
+}
+
+/// The trail's spots on the plane, in tenths: the last of its lines but for the two against time.
+fn spots(picture: &str) -> Vec<(i64, i64)> {
+    let lines: Vec<&str> = picture
+        .split("<polyline class=\"trail\" points=\"")
+        .collect();
+    let plane = lines[lines.len() - 3];
+    let (points, _) = plane.split_once('"').expect("the points end");
+    let tenths = |word: &str| word.replace('.', "").parse().expect("a number of tenths");
+    let spot = |point: &str| point.split_once(',').map(|(x, y)| (tenths(x), tenths(y)));
+    points.split(' ').filter_map(spot).collect()
+}
+
+/// A place left of the aisle is drawn as far from it as its image right of it. The plane is drawn from 70 to 936 across and from
+/// 96 to 556 down, so the two add up to 1,006 and 652.
+#[test]
+fn a_mirrored_trail_is_drawn_mirrored() {
+    let folder = Folder::new();
+    let mut random = Random::new(1);
+    for shape in [Shape::Smooth, Shape::ZigZag, Shape::Wild] {
+        let fixes = trail(shape, 400, &mut random);
+        let mirror = |fix: &Fix| Fix {
+            x: -fix.x,
+            y: -fix.y,
+            ..*fix
+        };
+        let images: Vec<Fix> = fixes.iter().map(mirror).collect();
+        folder.put("trail", plain::record(NEVER, &fixes));
+        folder.put("image", plain::record(NEVER, &images));
+        let (drawn, image) = (
+            spots(&draw(&folder, "trail")),
+            spots(&draw(&folder, "image")),
+        );
+        assert_eq!((drawn.len(), image.len()), (400, 400));
+        for (one, other) in drawn.into_iter().zip(image) {
+            assert_eq!(
+                (one.0 + other.0, one.1 + other.1),
+                (10_060, 6_520),
+                "{shape:?}"
+            );
+        }
+    }
 }
 
 #[test]
