@@ -6,15 +6,18 @@ use mathlib.Core.Option.{Option, some, none}
 use Prim.Native.Nat.{ℕ}
 use Rattle.distance.specs.Examples.{Computes}
 use Rattle.distance.specs.Fix.{last-of}
+use Rattle.distance.specs.Laws.All.{All, all-always}
 use Rattle.distance.specs.Distance.{deviation, allowance}
 use Rattle.format.specs.Bytes.{number-at, bytes-of, signed, unsigned}
-use Rattle.format.specs.Format.{fix-at, each, fix-bytes, all-bytes, header-bytes, record-bytes}
+use Rattle.format.specs.Format.{trail, fix-at, each, fix-bytes, all-bytes, header-bytes, record-bytes}
 use Rattle.format.specs.Examples.{document-bytes}
 use Rattle.record.specs.Checks.{sentence, first, some-outside, some-early-after, some-early, of-ends}
 use Rattle.record.specs.Answers.{Answer, gives, turns-away}
-use Rattle.record.specs.Examples.{read-rows, on-refused}
+use Rattle.record.specs.Examples.{read-rows, on-refused, MovableRow, movable-rows}
+use Rattle.record.specs.Moved.{moved-record}
 use Rattle.thinning.specs.Thinning.{sooner, furthest, every, but-last, thin-span, thin, thinning}
 use Rattle.aging.specs.Aging.{new-mark, thinned-record, last-row, days-give, Call, by-tolerance, by-days, left-by, answered}
+use Rattle.aging.specs.Laws.Moved.{AgedAlike, aged-moved}
 
 -- ---- the table: "from day 2, 10; from day 7, 25; from day 30, 100; from day 90, 400. Days 0 and 1 apply no tolerance"
 abbrev pub day-rows : List (ℕ × Option ℕ)
@@ -67,3 +70,7 @@ call-rows =
 pub calls-computed : Computes (λ (p : List ℕ × Call). (answered (p .0) (p .1), left-by (p .0) (p .1))) call-rows
 unfolding thinned-record new-mark last-row thinning thin thin-span furthest sooner every but-last last-of deviation allowance first sentence some-outside some-early-after some-early of-ends fix-at each number-at signed unsigned bytes-of fix-bytes all-bytes header-bytes record-bytes
 calls-computed = refl
+
+-- ---- the law of a moved clock, of bytes that are accepted and of refused ones
+pub movable-aged : All (λ (m : MovableRow). AgedAlike (m .by) (m .buffer) (moved-record trail (m .by) (m .buffer)) (by-days 7)) movable-rows
+movable-aged = all-always (λ (m : MovableRow). aged-moved (m .by) (m .buffer) (m .bytes) (m .movable) (by-days 7)) movable-rows

@@ -2,3 +2,4 @@
 pub mod Pack
 pub mod Aging
 pub mod Step
+pub mod Moved

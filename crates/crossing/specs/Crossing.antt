@@ -60,8 +60,7 @@ unfoldable pub first-crossing : (limit : ℕ) → List Fix → Box → (s e : �
 first-crossing limit [] box s e = none
 first-crossing limit (a ∷ l) box s e = first-from limit (a .t) a l (framed limit box) (s - a .t) (e - a .t)
 
--- ---- THE ANSWER: the form of the fraction is the one that `first-crossing` computes. What the call does not take decides nothing (`crossing-alone` of the
--- record's Laws/First.antt).
+-- ---- THE ANSWER. What the call does not take decides nothing (`crossing-alone` of the record's Laws/First.antt).
 abbrev pub asked-crossing : (s e : ℕ) → Box → Given
 asked-crossing s e box = record {
   tolerance = nothing .tolerance;
@@ -77,6 +76,9 @@ asked-crossing s e box = record {
 abbrev pub cross-refusal : Kind → List ℕ → (s e : ℕ) → Box → Option ℕ
 cross-refusal K b s e box = refusal K crossing (asked-of K b (asked-crossing s e box))
 
+-- It names the form of the fraction, as document 02's item 4 asks: the one that `first-crossing` computes of the first leg that crosses, and `Means` is what it means.
+-- It isn't reduced: over the centimetres that this leg goes in x, or in y, if that coordinate comes to the box just then, and over 1 if the leg or the window begins
+-- just then; of equal times the first of leg, window, x and y. It is the same whatever the clock says (`cross-answer-moved` of Laws/Moved.antt).
 abbrev pub cross-answer : Kind → List ℕ → (s e : ℕ) → Box → Answer (Option Fraction)
 cross-answer K b s e box = answer (cross-refusal K b s e box) (first-crossing (K .limit) (fixes K b) box s e)
 

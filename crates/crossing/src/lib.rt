@@ -1,6 +1,7 @@
 // The questions layer: when a trail crosses a box.
 use distance::Duration;
 use distance::Seconds;
+use distance::since;
 use legs::Fraction;
 use legs::Frame;
 use legs::Meeting;
@@ -8,7 +9,6 @@ use legs::Raised;
 use legs::leg_first;
 use legs::offset_of;
 use legs::raise;
-use legs::since;
 use record::Checked;
 ghost use mathlib.Core.Path.{_≡_};
 ghost use Prim.Native.Nat.{_+_, _*_, _-_, _≤_};
@@ -22,7 +22,7 @@ ghost use Rattle.legs.specs.Legs.{raised, framed};
 ghost use Rattle.crossing.specs.Crossing.{first-from, cross-refusal, cross-answer, CrossMeans};
 ghost use Rattle.legs.specs.Answers.{meeting};
 ghost use Rattle.crossing.specs.Answers.{crossed, boxOf};
-ghost use Rattle.record.specs.Laws.Trail.{from};
+ghost use Rattle.record.specs.Laws.Trail.{from, first-second};
 ghost use Rattle.legs.specs.Laws.Legs.{BoxInLimit};
 ghost use Rattle.legs.specs.Laws.Ranges.{Reach};
 ghost use Rattle.crossing.specs.Laws.Search.{Seekable, time-outside, window-outside, edges-outside};
@@ -69,31 +69,33 @@ fn framed(e: Edges) -> Frame
     }
 }
 
-fn raised_at(b: &[u8], k: usize, zero: Seconds) -> Raised
-    requires { ⌜ (18 + 8 * k ≤ length (now b)) × Reach (zero .0) (fix-at trail (now b) k) ⌝ }
-    ensures { λ r. ⌜ r ≡ raised 16000 (zero .0) (fix-at trail (now (b .entry)) k) ⌝ }
+fn second_at(b: &[u8], k: usize) -> Seconds
+    requires { ⌜ 18 + 8 * k ≤ length (now b) ⌝ }
+    ensures { λ r. ⌜ r .0 ≡ (fix-at trail (now (b .entry)) k) .t ⌝ }
 {
-    raise(format::fix_at(b, k), zero)
+    let f = format::fix_at(b, k);
+    f.t
+}
+
+// The first fix's second is read anew for each fix, so that no variable of the search keeps a second in more than 16 bits from one leg to the next.
+fn raised_at(b: &[u8], k: usize) -> Raised
+    requires { ⌜ (18 + 8 * k ≤ length (now b)) × Reach (first-second (now b)) (fix-at trail (now b) k) ⌝ }
+    ensures { λ r. ⌜ r ≡ raised 16000 (first-second (now (b .entry))) (fix-at trail (now (b .entry)) k) ⌝ }
+{
+    raise(format::fix_at(b, k), second_at(b, 0))
 }
 
 // ---- the trail
 
 // The first leg that crosses gives the answer.
-fn first_crossing(
-    b: &[u8],
-    n: usize,
-    f: Frame,
-    zero: Seconds,
-    opens: Duration,
-    closes: Duration,
-) -> Meeting
-    requires { ⌜ Seekable (now b) n (zero .0) ⌝ }
-    ensures { λ r. ⌜ meeting r ≡ first-from 16000 (zero .0) (fix-at trail (now (b .entry)) 0) (from (now (b .entry)) 1 n) f (opens .0) (closes .0) ⌝ }
+fn first_crossing(b: &[u8], n: usize, f: Frame, opens: Duration, closes: Duration) -> Meeting
+    requires { ⌜ Seekable (now b) n ⌝ }
+    ensures { λ r. ⌜ meeting r ≡ first-from 16000 (first-second (now (b .entry))) (fix-at trail (now (b .entry)) 0) (from (now (b .entry)) 1 n) f (opens .0) (closes .0) ⌝ }
 {
-    let mut a = raised_at(b, 0, zero);
+    let mut a = raised_at(b, 0);
     let mut k = 1;
     while k < n {
-        let z = raised_at(b, k, zero);
+        let z = raised_at(b, k);
         let r = leg_first(a, z, f, opens, closes);
         if let Meeting::At(x) = r {
             return Meeting::At(x);
@@ -157,9 +159,7 @@ fn question_says(b: &[u8], w: Window, e: Edges) -> Checked
     ensures { λ r. ⌜ refused r ≡ cross-refusal trail (now (b .entry)) (w .start .0) (w .end .0) (boxOf e) ⌝ }
 {
     let n = format::count_at(b);
-    let first = format::fix_at(b, 0);
-    let last = format::fix_at(b, n - 1);
-    if window_outside(w, first.t, last.t) {
+    if window_outside(w, second_at(b, 0), second_at(b, n - 1)) {
         return Checked::Refused(13);
     }
     if edges_outside(e) {
@@ -185,11 +185,10 @@ pub fn cross_asked(b: &[u8], w: Window, e: Edges) -> Crossed
     ensures { λ r. ⌜ crossed r ≡ cross-answer trail (now (b .entry)) (w .start .0) (w .end .0) (boxOf e) ⌝ }
 {
     let n = format::count_at(b);
-    let first = format::fix_at(b, 0);
-    let zero = first.t;
+    let zero = second_at(b, 0);
     let opens = since(zero, w.start);
     let closes = since(zero, w.end);
-    told(first_crossing(b, n, framed(e), zero, opens, closes))
+    told(first_crossing(b, n, framed(e), opens, closes))
 }
 
 // Whether the trail of a record crosses a box in a window, and the earliest time in seconds after the first fix.

@@ -1,5 +1,5 @@
--- ROUNDING AND MIRRORING IN NUMBERS: what document 02's item 1 says of fractions and coordinates. The definitions and the code cannot be changed together
--- without these rows. Each line is computed.
+-- ROUNDING, MIRRORING AND MOVING IN NUMBERS: what document 02's items 1 and 4 say of fractions, coordinates and times. The definitions and the code cannot be
+-- changed together without these rows. Each line is computed.
 use mathlib.Core.Path.{_≡_, refl}
 use mathlib.Core.Bool.{true, false}
 use mathlib.Core.List.{List, [], _∷_, map}
@@ -7,6 +7,8 @@ use Prim.Native.Nat.{ℕ}
 use lib.IntN.{ℤ, pos, negℤ}
 use Rattle.distance.specs.Rounding.{half-up, with-sign-of, rounded}
 use Rattle.distance.specs.Mirror.{mirrored}
+use Rattle.distance.specs.Clock.{moved, Stays}
+use Rattle.distance.specs.Laws.Clock.{computed-stays}
 
 -- Of what stands first in each row, `f` gives what stands second. It stands in the lowest layer for the rows of all.
 abbrev pub Computes : {A B : Type 0} → (f : A → B) → List (A × B) → Type 0
@@ -50,3 +52,14 @@ mirror-rows = (pos 5, minus 5) ∷ (minus 16000, pos 16000) ∷ (pos 0, pos 0) �
 
 pub mirror-computed : Computes (mirrored true) mirror-rows × Computes (mirrored false) ((pos 5, pos 5) ∷ (minus 5, minus 5) ∷ [])
 mirror-computed = (refl, refl)
+
+-- A clock moved by so many seconds, a second, and the second moved.
+abbrev pub clock-rows : List ((ℤ × ℕ) × ℕ)
+clock-rows = ((pos 5, 1000), 1005) ∷ ((minus 5, 1000), 995) ∷ ((pos 0, 1000), 1000) ∷ ((pos 4294967295, 0), 4294967295) ∷ ((minus 4294967295, 4294967295), 0) ∷ []
+
+pub clock-computed : Computes (λ (r : ℤ × ℕ). moved (r .0) (r .1)) clock-rows
+clock-computed = refl
+
+-- The first second of 32 bits can be moved to the last, and the last to the first.
+pub clock-ends : Stays (pos 4294967295) 0 × Stays (minus 4294967295) 4294967295
+clock-ends = (computed-stays (pos 4294967295) 0 tt tt, computed-stays (minus 4294967295) 4294967295 tt tt)

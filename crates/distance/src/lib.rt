@@ -10,7 +10,8 @@ ghost use Rattle.distance.specs.Span.{Chord, Span, Roundable};
 // A time on the fixes' own clock. Times and lengths have types of their own, so that neither can stand for the other.
 pub struct Seconds(pub u32);
 
-// The seconds from one fix to a later one of the same record, which checked records keep to 65,535.
+// Whole seconds from one time of a record to a later one, which its checks keep to 65,535: how long a span or a leg takes, and, counted from the first fix,
+// when a leg begins and when a window opens and closes. It is neither a time on the clock nor a length.
 pub struct Duration(pub u16);
 
 // A coordinate of a place.
@@ -25,7 +26,9 @@ pub struct Fix {
     pub y: Centimetres,
 }
 
-fn elapsed(a: Seconds, b: Seconds) -> Duration
+// The seconds from a to b, two times of one record. Nowhere else does a time on the clock become a number of 16 bits: check 9 has passed by then, and for the end
+// of a window check 13.
+pub fn since(a: Seconds, b: Seconds) -> Duration
     requires { ⌜ (a .0 ≤ b .0) × (b .0 ≤ a .0 + 65535) ⌝ }
     ensures { λ r. ⌜ pos (r .0) ≡ pos (b .0) -ℤ pos (a .0) ⌝ }
 {
@@ -45,8 +48,8 @@ pub fn deviation(i: Fix, m: Fix, j: Fix) -> u64
     requires { ⌜ Span 16000 (fixOf i) (fixOf m) (fixOf j) ⌝ }
     ensures { λ r. ⌜ r ≡ deviation (fixOf i) (fixOf m) (fixOf j) ⌝ }
 {
-    let d = elapsed(i.t, j.t);
-    let s = elapsed(i.t, m.t);
+    let d = since(i.t, j.t);
+    let s = since(i.t, m.t);
     let nx = axis_deviation(i.x, m.x, j.x, d, s);
     let ny = axis_deviation(i.y, m.y, j.y, d, s);
     (nx * nx + ny * ny) as u64
@@ -57,7 +60,7 @@ pub fn allowance(e: Tolerance, i: Fix, j: Fix) -> u64
     requires { ⌜ Chord (fixOf i) (fixOf j) ⌝ }
     ensures { λ r. ⌜ r ≡ allowance (e .0) (fixOf i) (fixOf j) ⌝ }
 {
-    let d = elapsed(i.t, j.t);
+    let d = since(i.t, j.t);
     let reach = (e.0 as u64) * (d.0 as u64);
     reach * reach
 }

@@ -18,7 +18,7 @@ ghost use Rattle.distance.specs.Fix.{fixOf};
 ghost use Rattle.legs.specs.Legs.{times, both, moving, axis-times, leg-times, leg-first, offset-of, raised};
 ghost use Rattle.legs.specs.Answers.{meeting};
 ghost use Rattle.legs.specs.Laws.Legs.{InLimit};
-ghost use Rattle.legs.specs.Laws.Ranges.{Clock, Reach};
+ghost use Rattle.legs.specs.Laws.Ranges.{LegFits, Reach};
 
 // ---- one axis of a leg
 
@@ -31,14 +31,14 @@ fn excess(a: Offset, b: Offset) -> Extent
 
 // The time at which n of the v centimetres are gone, times v.
 fn gone(start: Duration, takes: Duration, v: Extent, n: Extent) -> u32
-    requires { ⌜ Clock (start .0) (takes .0) ⌝ }
+    requires { ⌜ LegFits (start .0) (takes .0) ⌝ }
     ensures { λ r. ⌜ r ≡ start .0 * v .0 + takes .0 * n .0 ⌝ }
 {
     (start.0 as u32) * (v.0 as u32) + (takes.0 as u32) * (n.0 as u32)
 }
 
 fn moving(start: Duration, takes: Duration, v: Extent, n: Extent, m: Extent) -> Times
-    requires { ⌜ Clock (start .0) (takes .0) ⌝ }
+    requires { ⌜ LegFits (start .0) (takes .0) ⌝ }
     ensures { λ r. ⌜ r ≡ moving (start .0) (takes .0) (v .0) (n .0) (m .0) ⌝ }
 {
     times(gone(start, takes, v, n), gone(start, takes, v, m), v.0)
@@ -46,7 +46,7 @@ fn moving(start: Duration, takes: Duration, v: Extent, n: Extent, m: Extent) -> 
 
 // The whole leg.
 fn whole(start: Duration, takes: Duration) -> Times
-    requires { ⌜ Clock (start .0) (takes .0) ⌝ }
+    requires { ⌜ LegFits (start .0) (takes .0) ⌝ }
     ensures { λ r. ⌜ r ≡ times (start .0) (start .0 + takes .0) 1 ⌝ }
 {
     times(start.0 as u32, (start.0 as u32) + (takes.0 as u32), 1)
@@ -54,7 +54,7 @@ fn whole(start: Duration, takes: Duration) -> Times
 
 // When the axis is between its edges.
 fn axis(start: Duration, takes: Duration, a: Offset, b: Offset, low: Offset, high: Offset) -> Times
-    requires { ⌜ Clock (start .0) (takes .0) ⌝ }
+    requires { ⌜ LegFits (start .0) (takes .0) ⌝ }
     ensures { λ r. ⌜ r ≡ axis-times (start .0) (takes .0) (a .0) (b .0) (low .0) (high .0) ⌝ }
 {
     if a.0 < b.0 {
@@ -120,19 +120,12 @@ fn place_offset(c: Centimetres) -> Offset
     offset_of(c.0 as i32)
 }
 
-pub fn since(zero: Seconds, t: Seconds) -> Duration
-    requires { ⌜ (zero .0 ≤ t .0) × (t .0 ≤ zero .0 + 65535) ⌝ }
-    ensures { λ r. ⌜ r .0 ≡ t .0 - zero .0 ⌝ }
-{
-    Duration((t.0 - zero.0) as u16)
-}
-
 pub fn raise(f: Fix, zero: Seconds) -> Raised
     requires { ⌜ Reach (zero .0) (fixOf f) ⌝ }
     ensures { λ r. ⌜ r ≡ raised 16000 (zero .0) (fixOf f) ⌝ }
 {
     Raised {
-        t: since(zero, f.t),
+        t: distance::since(zero, f.t),
         x: place_offset(f.x),
         y: place_offset(f.y),
     }

@@ -7,7 +7,6 @@ use distance::Duration;
 pub use leg::leg_first;
 pub use leg::offset_of;
 pub use leg::raise;
-pub use leg::since;
 
 // Centimetres above the lowest place, −16,000.
 pub struct Offset(pub u16);

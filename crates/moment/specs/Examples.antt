@@ -1,6 +1,6 @@
 -- THE PLACE IN NUMBERS. Bytes and moments, written out, and what the papers say of them: the definitions and the code cannot be changed together without
 -- these rows. Each line is computed.
-use mathlib.Core.Path.{refl}
+use mathlib.Core.Path.{_≡_, refl}
 use mathlib.Core.Bool.{true, false}
 use mathlib.Core.List.{List, [], _∷_, _++_}
 use Prim.Native.Nat.{ℕ}
@@ -10,13 +10,17 @@ use Rattle.distance.specs.Fix.{last-of}
 use Rattle.distance.specs.Place.{own}
 use Rattle.distance.specs.Rounding.{half-up, with-sign-of, rounded}
 use Rattle.distance.specs.Mirror.{Mirror}
+use Rattle.distance.specs.Clock.{moved}
+use Rattle.distance.specs.Laws.All.{All, all-always}
 use Rattle.format.specs.Bytes.{number-at, bytes-of, signed, unsigned}
 use Rattle.format.specs.Format.{trail, fix-at, each, fix-bytes, all-bytes, changed}
 use Rattle.record.specs.Checks.{sentence, first, some-outside, some-early-after, some-early, of-ends}
 use Rattle.record.specs.Answers.{Answer, gives, turns-away}
-use Rattle.record.specs.Examples.{read-rows, on-refused}
+use Rattle.record.specs.Examples.{read-rows, on-refused, MovableRow, movable-rows}
+use Rattle.record.specs.Moved.{moved-record}
 use Rattle.moment.specs.Moment.{Standing, on-leg, moment-from, at-moment, place-answer}
 use Rattle.moment.specs.Mirror.{mirrored-record}
+use Rattle.moment.specs.Laws.Moved.{place-answer-moved}
 
 -- The trail (1000,0,0) (1010,5,−5).
 abbrev pub place-trail : List ℕ
@@ -70,3 +74,7 @@ pub images-computed : Computes (λ (m : Mirror). mirrored-record trail m (place-
     ∷ [])
 unfolding changed all-bytes fix-bytes bytes-of unsigned fix-at each number-at signed
 images-computed = refl
+
+-- ---- the law of a moved clock, of bytes that are accepted and of refused ones
+pub movable-placed : All (λ (m : MovableRow). place-answer trail (moved-record trail (m .by) (m .buffer)) (moved (m .by) (m .asked)) 500 ≡ place-answer trail (m .buffer) (m .asked) 500) movable-rows
+movable-placed = all-always (λ (m : MovableRow). place-answer-moved (m .by) (m .buffer) (m .bytes) (m .movable) (m .asked) 500 (m .asked-stays)) movable-rows

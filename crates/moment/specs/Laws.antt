@@ -2,5 +2,6 @@
 pub mod Moment
 pub mod Placing
 pub mod Mirror
+pub mod Moved
 pub mod Ranges
 pub mod Walk

@@ -2,27 +2,27 @@
 -- each list leaves what the table says; of the trail of row b too.
 use mathlib.Core.Path.{_≡_, refl}
 use mathlib.Core.List.{List, [], _∷_}
-use mathlib.Core.Bool.{Bool, true, false, cond}
 use mathlib.Core.Option.{Option, some, none}
 use Prim.Native.Nat.{ℕ}
-use lib.Dec.{ltb}
 use lib.IntN.{pos}
-use borrow.Author.Tests.{ltb-true}
 use Rattle.distance.specs.Distance.{deviation, allowance}
 use Rattle.distance.specs.Box.{Box, box-with}
-use Rattle.distance.specs.Laws.All.{all-none, all-more}
+use Rattle.distance.specs.Clock.{moved}
+use Rattle.distance.specs.Laws.All.{All, all-always}
 use Rattle.format.specs.Bytes.{number-at, bytes-of, signed, unsigned}
 use Rattle.format.specs.Format.{trail, never, mark-field, fix-at, each, fix-bytes, all-bytes, header-bytes, record-bytes}
 use Rattle.record.specs.Checks.{IsAccepted, sentence, first, some-outside, some-early-after, some-early, of-ends}
 use Rattle.record.specs.Answers.{Answer, gives, turns-away}
-use Rattle.format.specs.Laws.Numbers.{false-true}
-use Rattle.format.specs.Laws.RoundTrip.{AreBytes}
+use Rattle.format.specs.Laws.RoundTrip.{AreBytes, all-below, computed-bytes}
 use Rattle.thinning.specs.Thinning.{sooner, furthest, every, but-last, thin-span, thin, thinning}
 use Rattle.aging.specs.Aging.{Call, by-tolerance, by-days, new-mark, thinned-record, last-row}
 use Rattle.legs.specs.declared.Fraction.{Fraction}
 use Rattle.crossing.specs.Crossing.{first-crossing, first-from, cross-answer}
 use Rattle.legs.specs.Legs.{leg-first, leg-times, axis-times, first-of, later-of, earlier-of}
-use Rattle.questions.specs.Agings.{run}
+use Rattle.record.specs.Examples.{MovableRow, movable-rows}
+use Rattle.record.specs.Moved.{moved-record}
+use Rattle.questions.specs.Agings.{run, after-answer}
+use Rattle.questions.specs.Laws.Moved.{after-answer-moved}
 use Rattle.questions.specs.Claim.{Claim}
 use Rattle.questions.specs.Laws.Claim.{claim}
 use Rattle.distance.specs.Fix.{last-of}
@@ -72,22 +72,9 @@ pub lent-accepted : IsAccepted trail lent
 unfolding first sentence some-outside some-early-after some-early last-of of-ends fix-at each number-at signed
 lent-accepted = record { accepted = refl }
 
-all-below : List ℕ → Bool
-all-below [] = true
-all-below (n ∷ l) = cond (ltb n 256) (all-below l) false
-
-are-bytes : (l : List ℕ) → all-below l ≡ true → AreBytes l
-unfolding all-below
-are-bytes [] h = all-none
-are-bytes (n ∷ l) h = go (ltb n 256) refl h (are-bytes l)
-  where
-    go : (b : Bool) → ltb n 256 ≡ b → cond b (all-below l) false ≡ true → (all-below l ≡ true → AreBytes l) → AreBytes (n ∷ l)
-    go true e k r = all-more (ltb-true n 256 e) (r k)
-    go false e k r = absurd (false-true k)
-
 pub lent-bytes : AreBytes lent
 unfolding all-below
-lent-bytes = are-bytes lent refl
+lent-bytes = computed-bytes lent refl
 
 pub lent-never : mark-field lent ≡ never
 unfolding number-at
@@ -140,3 +127,8 @@ answers = cross-answer trail lent 0 30 shelf ∷ cross-answer trail left-at-25 0
 pub crossings : answers ≡ gives (some (record { num = 100; den = 20 })) ∷ gives none ∷ turns-away 13 ∷ []
 unfolding first sentence some-outside some-early-after some-early last-of of-ends fix-at each number-at signed first-crossing first-from leg-first leg-times axis-times first-of later-of earlier-of
 crossings = refl
+
+-- ---- the law of a moved clock and a list, of bytes that are accepted and of refused ones
+pub movable-after : All (λ (m : MovableRow). after-answer (moved-record trail (m .by) (m .buffer)) (by-days 7 ∷ by-tolerance 32001 ∷ []) (moved (m .by) (m .asked)) (moved (m .by) (m .asked)) shelf
+    ≡ after-answer (m .buffer) (by-days 7 ∷ by-tolerance 32001 ∷ []) (m .asked) (m .asked) shelf) movable-rows
+movable-after = all-always (λ (m : MovableRow). after-answer-moved (m .by) (m .buffer) (by-days 7 ∷ by-tolerance 32001 ∷ []) (m .bytes) (m .movable) (m .asked) (m .asked) shelf (m .asked-stays) (m .asked-stays)) movable-rows

@@ -1,4 +1,5 @@
 -- What is proved of the definitions, each law once.
 pub mod Agings
 pub mod Asked
+pub mod Moved
 pub mod Claim

@@ -231,6 +231,10 @@ nothing = record { tolerance = 0; second = 0; thousandths = 0; start = 0; end = 
 abbrev pub read-refusal : Kind → List ℕ → Option ℕ
 read-refusal K b = refusal K reading (asked-of K b nothing)
 
+-- What checks 1 to 6 say: they look at the head alone, and at how many bytes are lent.
+abbrev pub head-refusal : Kind → List ℕ → Option ℕ
+head-refusal K b = first (sentence K (asked-of K b nothing)) head-checks
+
 -- "A record is accepted if none of the reader's checks turns it away."
 pub record IsAccepted (K : Kind) (b : List ℕ) : Type 0 where
   pub accepted : read-refusal K b ≡ none

@@ -5,15 +5,28 @@ use mathlib.Core.List.{List, [], _∷_}
 use mathlib.Core.Option.{Option, some, none}
 use Prim.Native.Nat.{ℕ}
 use lib.ListN.{take}
-use lib.IntN.{pos}
+use lib.IntN.{ℤ, pos}
 use Rattle.distance.specs.Examples.{Computes, minus}
 use Rattle.distance.specs.Fix.{last-of}
+use Rattle.distance.specs.Clock.{Stays}
+use Rattle.distance.specs.Laws.All.{all-none, all-more}
+use Rattle.distance.specs.Laws.Clock.{computed-stays}
 use Rattle.format.specs.Bytes.{number-at, signed}
 use Rattle.format.specs.Format.{trail, fix-at, each}
 use Rattle.format.specs.Examples.{document-bytes}
+use Rattle.format.specs.Laws.RoundTrip.{AreBytes, all-below, computed-bytes}
 use Rattle.record.specs.Checks.{first, sentence, some-outside, some-early-after, some-early, of-ends, read-refusal}
 use Rattle.record.specs.Answers.{gives, turns-away}
+use Rattle.record.specs.Moved.{Movable}
+use Rattle.record.specs.Laws.First.{some-none}
 use Rattle.record.specs.Reading.{filled, stands, yields, moves, begins, told-refusal, read-answer, times-read, xs-read, ys-read}
+
+-- Document 01's 18 bytes with x = 16,001, and with the mark 32,001.
+abbrev pub misplaced-bytes : List ℕ
+misplaced-bytes = 18 ∷ 0 ∷ 0 ∷ 0 ∷ 1 ∷ 0 ∷ 255 ∷ 255 ∷ 1 ∷ 0 ∷ 232 ∷ 3 ∷ 0 ∷ 0 ∷ 129 ∷ 62 ∷ 2 ∷ 0 ∷ []
+
+abbrev pub badly-marked-bytes : List ℕ
+badly-marked-bytes = 18 ∷ 0 ∷ 0 ∷ 0 ∷ 1 ∷ 0 ∷ 1 ∷ 125 ∷ 1 ∷ 0 ∷ 232 ∷ 3 ∷ 0 ∷ 0 ∷ 255 ∷ 255 ∷ 2 ∷ 0 ∷ []
 
 -- Lent bytes, and the number of their refusal: a record's length (4 bytes), kind (2), mark (2) and count (2), and the fixes of 8 bytes.
 abbrev pub read-rows : List (List ℕ × Option ℕ)
@@ -43,12 +56,12 @@ read-rows =
     -- 6. "The mark is above 32,000 and isn't 65,535.": 0 and 32,000 are not, 32,001 and 65,534 are
     ∷ (18 ∷ 0 ∷ 0 ∷ 0 ∷ 1 ∷ 0 ∷ 0 ∷ 0 ∷ 1 ∷ 0 ∷ 232 ∷ 3 ∷ 0 ∷ 0 ∷ 255 ∷ 255 ∷ 2 ∷ 0 ∷ [], none)
     ∷ (18 ∷ 0 ∷ 0 ∷ 0 ∷ 1 ∷ 0 ∷ 0 ∷ 125 ∷ 1 ∷ 0 ∷ 232 ∷ 3 ∷ 0 ∷ 0 ∷ 255 ∷ 255 ∷ 2 ∷ 0 ∷ [], none)
-    ∷ (18 ∷ 0 ∷ 0 ∷ 0 ∷ 1 ∷ 0 ∷ 1 ∷ 125 ∷ 1 ∷ 0 ∷ 232 ∷ 3 ∷ 0 ∷ 0 ∷ 255 ∷ 255 ∷ 2 ∷ 0 ∷ [], some 6)
+    ∷ (badly-marked-bytes, some 6)
     ∷ (18 ∷ 0 ∷ 0 ∷ 0 ∷ 1 ∷ 0 ∷ 254 ∷ 255 ∷ 1 ∷ 0 ∷ 232 ∷ 3 ∷ 0 ∷ 0 ∷ 255 ∷ 255 ∷ 2 ∷ 0 ∷ [], some 6)
     -- 7. "Some x or y is outside −16,000 to 16,000.": the limits are not, and 16,001 and −16,001 are, of x and of y
     ∷ (18 ∷ 0 ∷ 0 ∷ 0 ∷ 1 ∷ 0 ∷ 255 ∷ 255 ∷ 1 ∷ 0 ∷ 232 ∷ 3 ∷ 0 ∷ 0 ∷ 128 ∷ 62 ∷ 128 ∷ 193 ∷ [], none)
     ∷ (18 ∷ 0 ∷ 0 ∷ 0 ∷ 1 ∷ 0 ∷ 255 ∷ 255 ∷ 1 ∷ 0 ∷ 232 ∷ 3 ∷ 0 ∷ 0 ∷ 128 ∷ 193 ∷ 128 ∷ 62 ∷ [], none)
-    ∷ (18 ∷ 0 ∷ 0 ∷ 0 ∷ 1 ∷ 0 ∷ 255 ∷ 255 ∷ 1 ∷ 0 ∷ 232 ∷ 3 ∷ 0 ∷ 0 ∷ 129 ∷ 62 ∷ 2 ∷ 0 ∷ [], some 7)
+    ∷ (misplaced-bytes, some 7)
     ∷ (18 ∷ 0 ∷ 0 ∷ 0 ∷ 1 ∷ 0 ∷ 255 ∷ 255 ∷ 1 ∷ 0 ∷ 232 ∷ 3 ∷ 0 ∷ 0 ∷ 127 ∷ 193 ∷ 2 ∷ 0 ∷ [], some 7)
     ∷ (18 ∷ 0 ∷ 0 ∷ 0 ∷ 1 ∷ 0 ∷ 255 ∷ 255 ∷ 1 ∷ 0 ∷ 232 ∷ 3 ∷ 0 ∷ 0 ∷ 255 ∷ 255 ∷ 129 ∷ 62 ∷ [], some 7)
     ∷ (18 ∷ 0 ∷ 0 ∷ 0 ∷ 1 ∷ 0 ∷ 255 ∷ 255 ∷ 1 ∷ 0 ∷ 232 ∷ 3 ∷ 0 ∷ 0 ∷ 255 ∷ 255 ∷ 127 ∷ 193 ∷ [], some 7)
@@ -112,3 +125,51 @@ pub none-read : (read-answer trail lent-short ≡ turns-away 5)
     × (ys-read trail lent-short (pos 1 ∷ pos 2 ∷ []) ≡ pos 1 ∷ pos 2 ∷ [])
 unfolding first sentence some-outside some-early-after some-early last-of of-ends fix-at each number-at signed filled
 none-read = (refl, refl, refl, refl)
+
+-- ---- BUFFERS WHOSE CLOCK IS MOVED, with all that the laws of it ask, so that nothing they ask is empty: document 01's 18 bytes, their fix moved to the last second
+-- of 32 bits and to the first; the same with x = 16,001, which 7 turns away; and with the mark 32,001, which 6 turns away, so that its time may leave 32 bits.
+pub record MovableRow : Type 0 where
+  pub by : ℤ
+  pub buffer : List ℕ
+  pub bytes : AreBytes buffer
+  pub movable : Movable trail by buffer
+  -- a second that is asked
+  pub asked : ℕ
+  pub asked-stays : Stays by asked
+
+pub movable-rows : List MovableRow
+unfolding all-below first sentence fix-at each number-at
+movable-rows =
+    record {
+      by = pos 4294966295;
+      buffer = document-bytes;
+      bytes = computed-bytes document-bytes refl;
+      movable = record { all-stay = (λ h. all-more (computed-stays (pos 4294966295) 1000 tt tt) all-none) };
+      asked = 1000;
+      asked-stays = computed-stays (pos 4294966295) 1000 tt tt;
+    }
+    ∷ record {
+      by = minus 1000;
+      buffer = document-bytes;
+      bytes = computed-bytes document-bytes refl;
+      movable = record { all-stay = (λ h. all-more (computed-stays (minus 1000) 1000 tt tt) all-none) };
+      asked = 1000;
+      asked-stays = computed-stays (minus 1000) 1000 tt tt;
+    }
+    ∷ record {
+      by = pos 4294966295;
+      buffer = misplaced-bytes;
+      bytes = computed-bytes misplaced-bytes refl;
+      movable = record { all-stay = (λ h. all-more (computed-stays (pos 4294966295) 1000 tt tt) all-none) };
+      asked = 1000;
+      asked-stays = computed-stays (pos 4294966295) 1000 tt tt;
+    }
+    ∷ record {
+      by = pos 4294967295;
+      buffer = badly-marked-bytes;
+      bytes = computed-bytes badly-marked-bytes refl;
+      movable = record { all-stay = (λ h. absurd (some-none h)) };
+      asked = 0;
+      asked-stays = computed-stays (pos 4294967295) 0 tt tt;
+    }
+    ∷ []

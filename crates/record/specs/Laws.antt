@@ -7,4 +7,5 @@ pub mod Columns
 pub mod Accepted
 pub mod Rest
 pub mod Changed
+pub mod Moved
 pub mod Trail

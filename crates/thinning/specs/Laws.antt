@@ -3,6 +3,7 @@ pub mod Furthest
 pub mod Keeps
 pub mod Kept
 pub mod Again
+pub mod Mapped
 pub mod Trail
 pub mod Near
 pub mod Search

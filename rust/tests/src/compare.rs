@@ -1,9 +1,11 @@
 //! One operation on one lent buffer, by the proved functions and by the plain version: what each answers, and what is
-//! lent afterwards. `draw` draws such cases, `minimise` makes one smaller, and `table` counts what was met.
+//! lent afterwards. `draw` draws such cases, `twin` moves one in time, `minimise` makes one smaller, and `table` counts
+//! what was met.
 
 pub mod draw;
 pub mod minimise;
 pub mod table;
+pub mod twin;
 
 use crate::cases::{Random, Settings};
 use crate::columns::Columns;
@@ -41,7 +43,7 @@ pub struct Case {
 }
 
 /// What an operation answers.
-#[derive(Debug, PartialEq)]
+#[derive(Clone, Debug, PartialEq)]
 pub enum Reply {
     Head(Head),
     Steps(Vec<Step>),
@@ -68,7 +70,7 @@ impl Reply {
     }
 }
 
-/// An answer to the crossing question. Two times are equal by value, since the form of the fraction is free.
+/// An answer to the crossing question. Two times are equal by value, since the plain version has a form of its own.
 #[derive(Clone, Copy, Debug)]
 pub enum Crossed {
     Refused(u32),
@@ -219,21 +221,30 @@ impl Sides<'_> {
         let outcome = (self.plain)(case);
         ((self.proved)(case) == outcome).then_some(outcome)
     }
+
+    /// Whether the proved side answers a twin of the case otherwise than the case.
+    fn twins_differ(&self, case: &Case) -> bool {
+        twin::differing(self.proved, case).is_some()
+    }
 }
 
-/// Draws cases until all are tried or one shows a difference, which is given back as small as it can be made.
+/// Draws cases until all are tried or one shows a difference, between the sides or from a twin, which is given back as
+/// small as it can be made and still shows that.
 pub fn run(settings: Settings, sides: Sides) -> Result<table::Table, Box<Case>> {
     let mut random = Random::new(settings.seed);
     let mut table = table::Table::default();
+    let smallest =
+        |case, differs: &dyn Fn(&Case) -> bool| Err(Box::new(minimise::minimised(case, differs)));
     for _ in 0..settings.cases {
         let case = draw::case(&mut random);
-        match sides.agreed(&case) {
-            Some(outcome) => table.count(&case, &outcome.reply),
-            None => {
-                let differs = |case: &Case| sides.agreed(case).is_none();
-                return Err(Box::new(minimise::minimised(case, &differs)));
-            }
+        let Some(outcome) = sides.agreed(&case) else {
+            return smallest(case, &|case| sides.agreed(case).is_none());
+        };
+        if sides.twins_differ(&case) {
+            return smallest(case, &|case| sides.twins_differ(case));
         }
+        table.count(&case, &outcome.reply);
+        table.twins += twin::shifts(&case).len();
     }
     Ok(table)
 }

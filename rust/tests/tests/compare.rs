@@ -1,14 +1,16 @@
-//! The comparison itself: it meets everything and finds no difference, and of one that is put in it shows the smallest
-//! case.
+//! The comparison itself: it meets everything and finds no difference, and of one that is put in, between the sides or
+//! from a twin, it shows the smallest case.
 #![forbid(unsafe_code)]
 
 use trails_tests::cases::Settings;
 use trails_tests::columns::Columns;
 use trails_tests::compare::{plain, proved, run, Case, Crossed, Outcome, Reply};
 use trails_tests::compare::{Operation, Sides};
+use trails_tests::interface::Crossing;
 use trails_tests::plain::crossing::{Area, Question, Window};
 use trails_tests::plain::thinning::thin;
 use trails_tests::plain::{self, read, record_length, Fix, NEVER};
+use trails_tests::questions::Moment;
 
 const SETTINGS: Settings = Settings {
     seed: 7,
@@ -25,21 +27,28 @@ fn fixes(buffer: &[u8]) -> usize {
     read(buffer).map_or(0, |trail| trail.fixes.len())
 }
 
-/// The case that is shown when the plain version's outcomes are spoiled.
-fn shown(spoil: fn(&Case, &mut Outcome)) -> Case {
-    let faulty = |case: &Case| {
-        let mut outcome = plain(case);
+/// A side whose outcomes are spoiled.
+fn faulty(side: fn(&Case) -> Outcome, spoil: fn(&Case, &mut Outcome)) -> impl Fn(&Case) -> Outcome {
+    move |case| {
+        let mut outcome = side(case);
         spoil(case, &mut outcome);
         outcome
-    };
-    let sides = Sides {
-        proved: &proved,
-        plain: &faulty,
-    };
+    }
+}
+
+fn shown_by(sides: Sides) -> Case {
     match run(SETTINGS, sides) {
         Ok(table) => panic!("no difference was found:\n{table}"),
         Err(case) => *case,
     }
+}
+
+/// The case that is shown when the plain version's outcomes are spoiled.
+fn shown(spoil: fn(&Case, &mut Outcome)) -> Case {
+    shown_by(Sides {
+        proved: &proved,
+        plain: &faulty(plain, spoil),
+    })
 }
 
 #[test]
@@ -239,7 +248,7 @@ fn forms_of_one_fraction_are_equal_and_denominators_have_limits() {
         operation: Operation::Crosses(question),
     };
     let answer = |numerator, denominator| {
-        Crossed::from(trails_tests::interface::Crossing {
+        Crossed::from(Crossing {
             refusal: 0,
             crosses: 1,
             numerator,
@@ -256,5 +265,67 @@ fn forms_of_one_fraction_are_equal_and_denominators_have_limits() {
         (34, 10, false),
     ] {
         assert_eq!(told == Reply::Crossing(answer(p, q)), equal, "{p}/{q}");
+    }
+}
+
+// ---- twins
+
+/// The two sides are equal by value, so that only a twin shows it.
+#[test]
+fn a_fraction_of_another_form_at_late_times_is_shown_by_a_twin() {
+    let doubled = faulty(proved, |case, outcome| {
+        let late = read(&case.buffer).is_ok_and(|trail| trail.fixes[0].t > 1_000_000);
+        if let (true, Reply::Crossing(Crossed::Yes(time))) = (late, &mut outcome.reply) {
+            time.p *= 2;
+            time.q *= 2;
+        }
+    });
+    let case = shown_by(Sides {
+        proved: &doubled,
+        plain: &plain,
+    });
+    assert_eq!(case.buffer, record(0, &[(0, 0, 0)]));
+    let (Operation::Crosses(question) | Operation::CrossesAfter(_, question)) = case.operation
+    else {
+        panic!("{case:?}");
+    };
+    assert_eq!(question.window, Window { start: 0, end: 0 });
+}
+
+/// A side that takes the asked second's low 16 bits for it.
+fn cut(side: fn(&Case) -> Outcome) -> impl Fn(&Case) -> Outcome {
+    move |case| {
+        let mut outcome = side(case);
+        if let Operation::Place(moment) = &case.operation {
+            let mut low = case.clone();
+            low.operation = Operation::Place(Moment {
+                second: moment.second % 65_536,
+                ..*moment
+            });
+            outcome.reply = side(&low).reply;
+        }
+        outcome
+    }
+}
+
+/// If one side does it, a fix at 0 is taken to be there at 65,536; if both do, only a twin shows it, of a fix at 0 too.
+#[test]
+fn seconds_that_are_cut_to_16_bits_are_shown_also_if_both_sides_do_it() {
+    let (one, other) = (cut(proved), cut(plain));
+    let by_one = shown_by(Sides {
+        proved: &one,
+        plain: &plain,
+    });
+    let by_both = shown_by(Sides {
+        proved: &one,
+        plain: &other,
+    });
+    for (case, second) in [(by_one, 65_536), (by_both, 0)] {
+        let moment = Moment {
+            second,
+            thousandths: 0,
+        };
+        assert_eq!(case.operation, Operation::Place(moment));
+        assert_eq!(case.buffer, record(0, &[(0, 0, 0)]));
     }
 }

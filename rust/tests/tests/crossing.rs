@@ -1,4 +1,4 @@
-//! The crossing question: yes with the earliest time, no with nothing, and each refusal.
+//! The crossing question: yes with the earliest time, no with nothing, trails moved in time, and each refusal.
 #![forbid(unsafe_code)]
 
 use trails_tests::cases::{buffer, Random, Settings, Tally};
@@ -190,6 +190,58 @@ fn trails_worked_by_hand() {
     [L, SLOPES, STANDING, LONE, WALLS]
         .iter()
         .for_each(Row::holds);
+}
+
+// ---- moved in time
+
+/// A window in seconds after the first fix, a box, and the answer by hand: refusal, yes, numerator and denominator.
+type Moved = ((i32, i32), (i32, i32), (i32, i32), [u32; 4]);
+
+const MOVED: [Moved; 7] = [
+    // y comes to -10 when 10 of its 21 centimetres are gone, in 7 seconds
+    ((0, 14), (3, 5), (-11, -10), [0, 1, 70, 21]),
+    // 20 of the 21 on the second leg, which begins at 7
+    ((8, 14), (0, 14), (-1, 0), [0, 1, 287, 21]),
+    // the window opens, also where x and y come to the box just then
+    ((8, 14), (0, 14), (-21, 0), [0, 1, 8, 1]),
+    ((14, 14), (14, 14), (0, 0), [0, 1, 14, 1]),
+    ((0, 14), (4, 6), (-9, 5), [0, 0, 0, 0]),
+    // a second too early, and one too late
+    ((-1, 14), (3, 5), (-11, -10), [13, 0, 0, 0]),
+    ((0, 15), (3, 5), (-11, -10), [13, 0, 0, 0]),
+];
+
+/// From 0 on, with 65,536 in the midst and at the start, and up to the last second.
+const FIRSTS: [u32; 4] = [0, 65_529, 65_536, 4_294_967_281];
+
+/// The slopes from each of these seconds on are asked the same, where 32 bits hold the window.
+#[test]
+fn a_trail_and_its_window_moved_alike_have_the_same_answer() {
+    for (window, x, y, expected) in MOVED {
+        let asked = FIRSTS.into_iter().filter_map(|first| {
+            let second = |after| first.checked_add_signed(after);
+            let question = Question {
+                window: Window {
+                    start: second(window.0)?,
+                    end: second(window.1)?,
+                },
+                area: Area::new(x, y),
+            };
+            let fix = |&(t, x, y): &(u32, i16, i16)| Fix::from((t - 100 + first, x, y));
+            let fixes: Vec<Fix> = SLOPES.fixes.iter().map(fix).collect();
+            let answer = crosses(&buffer(&fixes), &question, &format!("from {first}"));
+            let Crossing {
+                refusal,
+                crosses,
+                numerator,
+                denominator,
+            } = answer;
+            Some([refusal, crosses, numerator, denominator])
+        });
+        let answers: Vec<[u32; 4]> = asked.collect();
+        let many = if expected[0] == 0 { 4 } else { 3 };
+        assert_eq!(answers, vec![expected; many], "{window:?}, {x:?}, {y:?}");
+    }
 }
 
 // ---- by chance

@@ -23,7 +23,8 @@ usage: trail cross [--json] FILE --box X0 X1 Y0 Y1 --window S E
 Says whether the cart was in the box, x from X0 to X1 and y from Y0 to Y1, at
 some time from second S to second E, edges and both ends included. A yes comes
 with the earliest time: the seconds after the first fix as a fraction, and the
-same on the trail's own clock, cut off after the thousandths.
+same on the trail's own clock, cut off after the thousandths. The fraction isn't
+reduced; it is the same for the same trail and window at another time.
 
 Then it says what that means of the original, the trail as the cart reported
 it, straight between its fixes: a no of a thinned trail is no proof that the

@@ -70,7 +70,7 @@ pub struct Place {
     pub whole_y: i32,
 }
 
-/// Whether a cart was in a box. No `PartialEq`: the form of a crossing's fraction is free.
+/// Whether a cart was in a box. No `PartialEq`: fractions of one value may have different forms.
 #[repr(C)]
 #[derive(Clone, Copy, Debug)]
 pub struct Crossing {

@@ -52,7 +52,9 @@ pub struct Window {
 
 /// The earliest time at which a cart was in a box: numerator / denominator seconds after the first fix.
 ///
-/// The fraction's form is free; two crossings are equal if their values are.
+/// The fraction isn't reduced: its denominator is 1, or the centimetres that the cart goes along an axis from one fix to
+/// the next. Two crossings are equal if their values are. A trail and its window moved by the same seconds have the same
+/// numerator and denominator.
 #[derive(Clone, Copy, Debug)]
 pub struct Crossing {
     /// Seconds times the denominator.

@@ -15,7 +15,7 @@ use Rattle.distance.specs.Fix.{Fix}
 use Rattle.distance.specs.Laws.All.{All, all-none, all-more, all-append, all-drop}
 use Rattle.distance.specs.Integers.Tests.{Test, holds, fails, test}
 use Rattle.format.specs.Format.{trail, mark-field, count-field, fixes, fix-at, record-bytes}
-use Rattle.record.specs.Checks.{IsAccepted, too-long, of-ends}
+use Rattle.record.specs.Checks.{IsAccepted, read-refusal, too-long, of-ends}
 use Rattle.record.specs.Answers.{Answer, gives, turns-away}
 use Rattle.format.specs.Laws.Each.{length-each}
 use Rattle.format.specs.Laws.Layout.{length-record}
@@ -24,7 +24,7 @@ use Rattle.record.specs.Laws.Accepted.{GoodMark, mark-applied, mark-never-appli
 use Rattle.thinning.specs.Thinning.{thinned}
 use Rattle.aging.specs.Aging.{Call, by-tolerance, by-days, left-by, answered, age-answer, aged, aged-by-days, days-give, new-mark, thinned-record, Row, day-table, last-row, record-at, applies}
 use Rattle.thinning.specs.Laws.Trail.{kept-all, kept-rising, ends-stay, SameEnds, no-fixes, same-ends, no-more}
-use Rattle.aging.specs.Laws.Aging.{age-none, age-10, age-refused, age-done, days-done}
+use Rattle.aging.specs.Laws.Aging.{age-reader, age-none, age-10, age-refused, age-done, days-refused, days-done}
 use Rattle.record.specs.Laws.First.{some-none}
 
 -- ---- the kept fixes are good: within the limits, in order, and no longer than before
@@ -111,6 +111,11 @@ step b (by-tolerance e) a = go (test e 32000)
     go (fails h) = sym (age-refused b e 10 (age-10 b e (a .accepted) h) .1)
 step b (by-days d) a = sym (days-done b d (days-give d) refl (a .accepted) .1)
 
+-- Bytes that the reader turns away every call leaves as they are.
+pub left-refused : (b : List ℕ) (k : ℕ) (c : Call) → read-refusal trail b ≡ some k → left-by b c ≡ b
+left-refused b k (by-tolerance e) h = sym (age-refused b e k (age-reader b e k h) .1)
+left-refused b k (by-days d) h = sym (days-refused b d k h .1)
+
 -- By days is by tolerance at the table's.
 pub days-as-tolerance : (b : List ℕ) (d e : ℕ) → IsAccepted trail b → days-give d ≡ some e → (aged-by-days b d ≡ aged b e) × (answered b (by-days d) ≡ answered b (by-tolerance e))
 days-as-tolerance b d e a h =
@@ -159,3 +164,19 @@ applies-low (by-tolerance t) e h = go (test t 32000) h
     go (holds g) h = let z : t ≡ e = cc in omega arith
     go (fails g) h = absurd (some-none (sym h))
 applies-low (by-days d) e h = table-low d e h
+
+-- What a call leaves of an accepted record is one again, and bytes.
+pub left-accepted : (b : List ℕ) (c : Call) → AreBytes b → IsAccepted trail b → IsAccepted trail (left-by b c) × AreBytes (left-by b c)
+left-accepted b c bytes a = rw (step b c a) (go (applies c) refl)
+  where
+    go : (t : Option ℕ) → applies c ≡ t → IsAccepted trail (record-at t b) × AreBytes (record-at t b)
+    go none h = (a, bytes)
+    go (some e) h = let t = thins b e bytes a (applies-low c e h) in (t .still-accepted, t .bytes-still)
+
+-- and of any bytes it leaves bytes
+pub left-bytes : (b : List ℕ) (c : Call) → AreBytes b → AreBytes (left-by b c)
+left-bytes b c bytes = go (read-refusal trail b) refl
+  where
+    go : (r : Option ℕ) → read-refusal trail b ≡ r → AreBytes (left-by b c)
+    go (some k) h = rw (left-refused b k c h) bytes
+    go none h = left-accepted b c bytes (record { accepted = h }) .1

@@ -4,12 +4,11 @@ use mathlib.Core.Option.{Option}
 use Prim.Native.Nat.{ℕ, _-_}
 use native.Mathlib.Omega.{arith}
 use denote.Ref.{now}
-use Rattle.distance.specs.Fix.{Fix}
-use Rattle.format.specs.Format.{trail, fix-at, count-field}
+use Rattle.distance.specs.Integers.Differences.{sub-of-pos}
 use Rattle.record.specs.Answers.{gives}
 use Rattle.record.specs.Laws.Head.{Head}
 use Rattle.record.specs.Laws.Accepted.{accepted-good}
-use Rattle.record.specs.Laws.Trail.{span-is}
+use Rattle.record.specs.Laws.Trail.{first-second, last-second, span-is}
 use Rattle.legs.specs.declared.Fraction.{Fraction}
 use Rattle.crossing.specs.Answers.{boxOf}
 use Rattle.crossing.specs.Laws.Crossing.{GoodWindow}
@@ -27,52 +26,56 @@ passed s = cross-passed (bytes s) _ _ (boxOf (s .args .e)) (s .pre)
 head : (s : tie.Start) → Head (bytes s)
 head s = accepted-good (bytes s) (passed s .is-accepted) .head
 
--- the first fix's time
-abbrev start : tie.Start → ℕ
-start s = (fix-at trail (bytes s) 0) .t
-
-first-time : (c : tie.After-fix-at) → c .fix-at .result .t .0 ≡ start (c .before .before .before)
-first-time c = ap (λ (f : Fix). f .t) (c .fix-at .ensures)
-
-window : (s : tie.Start) → GoodWindow (s .args .w .start .0) (s .args .w .end .0) (start s) ((fix-at trail (bytes s) (count-field (bytes s) - 1)) .t)
+window : (s : tie.Start) → GoodWindow (s .args .w .start .0) (s .args .w .end .0) (first-second (bytes s)) (last-second (bytes s))
 window s = window-good _ _ _ _ (passed s .window-passed)
 
 count-at-requires : tie.Need-count-at-requires
 count-at-requires c κs = head (c .before) .ten
 
-fix-at-requires : tie.Need-fix-at-requires
-fix-at-requires c κs = let h = head (c .before .before) in omega (arith, h .some-fix, h .whole)
+second-at-requires : tie.Need-second-at-requires
+second-at-requires c κs = let h = head (c .before .before) in omega (arith, h .some-fix, h .whole)
 
 since-requires : tie.Need-since-requires
 since-requires c κs =
-    let w = window (c .before .before .before .before) in
-    let s = span-is (bytes (c .before .before .before .before)) (passed (c .before .before .before .before) .is-accepted) in
-    let f = first-time (c .before) in
-    (omega (arith, w .from), omega (arith, w .order, w .to))
+    let b = c .before .before .before in
+    let w = window b in
+    let s = span-is (bytes b) (passed b .is-accepted) in
+    (omega (arith, w .from, c .second-at .ensures), omega (arith, w .order, w .to, c .second-at .ensures))
 
 since-requires-2 : tie.Need-since-requires-2
 since-requires-2 c κs =
-    let w = window (c .before .before .before .before .before) in
-    let s = span-is (bytes (c .before .before .before .before .before)) (passed (c .before .before .before .before .before) .is-accepted) in
-    let f = first-time (c .before .before) in
-    (omega (arith, w .from, w .order), omega (arith, w .order, w .to))
+    let b = c .before .before .before .before in
+    let w = window b in
+    let s = span-is (bytes b) (passed b .is-accepted) in
+    (omega (arith, w .from, w .order, c .before .second-at .ensures), omega (arith, w .order, w .to, c .before .second-at .ensures))
 
 framed-requires : tie.Need-framed-requires
-framed-requires c κs = box-good _ (passed (c .before .before .before .before .before .before) .box-passed)
+framed-requires c κs = box-good _ (passed (c .before .before .before .before .before) .box-passed)
 
 first-crossing-requires : tie.Need-first-crossing-requires
-first-crossing-requires c κs = record { is-accepted = passed (c .before .before .before .before .before .before .before) .is-accepted; count = c .before .before .before .before .before .count-at .ensures .0; first-time = first-time (c .before .before .before .before) }
+first-crossing-requires c κs = record { is-accepted = passed (c .before .before .before .before .before .before) .is-accepted; count = c .before .before .before .before .count-at .ensures .0 }
 
 told-requires : tie.Need-told-requires
 told-requires c κs = search needs
 
+-- the window's ends, after the first fix
+opens : (c : tie.After-since) → c .since .result .0 ≡ c .before .before .before .before .args .w .start .0 - first-second (bytes (c .before .before .before .before))
+opens c =
+    let w = window (c .before .before .before .before) in
+    sub-of-pos (w .from) (rw (← c .before .second-at .ensures) (c .since .ensures))
+
+closes : (c : tie.After-since2) → c .since2 .result .0 ≡ c .before .before .before .before .before .args .w .end .0 - first-second (bytes (c .before .before .before .before .before))
+closes c =
+    let w = window (c .before .before .before .before .before) in
+    sub-of-pos (omega (arith, w .from, w .order)) (rw (← c .before .before .second-at .ensures) (c .since2 .ensures))
+
 returns : tie.Need-returns
 returns c =
-    let s = c .before .before .before .before .before .before .before .before .before in
+    let s = c .before .before .before .before .before .before .before .before in
     c .told .ensures
     ∙ ap (λ (o : Option Fraction). gives o)
     (c .before .first-crossing .ensures
-    ∙ rw (c .before .before .framed .ensures, c .before .before .before .since2 .ensures, c .before .before .before .before .since .ensures, first-time (c .before .before .before .before .before .before), c .before .before .before .before .before .before .before .count-at .ensures .0) refl)
+    ∙ rw (c .before .before .framed .ensures, closes (c .before .before .before), opens (c .before .before .before .before), c .before .before .before .before .before .before .count-at .ensures .0) refl)
     ∙ sym (cross-gives (bytes s) _ _ (boxOf (s .args .e)) (s .pre))
 
 pub cross-asked-spec : {M : Type 1} → statement M
@@ -80,7 +83,7 @@ cross-asked-spec =
     tie.close
     (tie.spec
     count-at-requires
-    fix-at-requires
+    second-at-requires
     since-requires
     since-requires-2
     framed-requires

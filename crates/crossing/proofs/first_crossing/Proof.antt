@@ -9,10 +9,10 @@ use Rattle.crossing.proofs.first_crossing.Statement.{statement}
 use Rattle.crossing.proofs.first_crossing.Tie as tie
 
 abbrev Inv-loop : tie.InvT-loop
-Inv-loop b n f zero opens closes a₀ k₀ a k = Seek b n (zero .0) f (opens .0) (closes .0) a k
+Inv-loop b n f opens closes a₀ k₀ a k = Seek b n f (opens .0) (closes .0) a k
 
 abbrev μ-loop : tie.MeasureT-loop
-μ-loop b n f zero opens closes a₀ k₀ a k = n - k
+μ-loop b n f opens closes a₀ k₀ a k = n - k
 
 raised-at-requires : tie.Need-raised-at-requires Inv-loop μ-loop
 raised-at-requires c κs = let l = lent (c .before .pre .is-accepted) (c .before .pre .count) in (omega (arith, l .whole, l .some), first-reach (c .before .pre))

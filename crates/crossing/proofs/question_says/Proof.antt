@@ -4,10 +4,10 @@ use mathlib.Core.List.{List}
 use Prim.Native.Nat.{ℕ, _-_}
 use native.Mathlib.Omega.{arith}
 use denote.Ref.{now}
-use Rattle.distance.specs.Fix.{Fix}
-use Rattle.format.specs.Format.{trail, fix-at, count-field}
+use Rattle.format.specs.Format.{trail, fix-at}
 use Rattle.record.specs.Laws.Head.{Head}
 use Rattle.record.specs.Laws.Accepted.{accepted-good}
+use Rattle.record.specs.Laws.Trail.{first-second, last-second}
 use Rattle.crossing.specs.Answers.{boxOf}
 use Rattle.crossing.specs.Laws.Search.{window-outside, edges-outside}
 use Rattle.crossing.specs.Laws.Checking.{cross-13, cross-14, cross-none}
@@ -21,26 +21,14 @@ bytes s = now (s .args .b)
 head : (s : tie.Start) → Head (bytes s)
 head s = accepted-good (bytes s) (s .pre) .head
 
--- the times of the first and the last fix
-abbrev start : tie.Start → ℕ
-start s = (fix-at trail (bytes s) 0) .t
-
-abbrev end : tie.Start → ℕ
-end s = (fix-at trail (bytes s) (count-field (bytes s) - 1)) .t
-
-first-time : (c : tie.After-fix-at2) → c .before .fix-at .result .t .0 ≡ start (c .before .before .before .before)
-first-time c = ap (λ (f : Fix). f .t) (c .before .fix-at .ensures)
-
-last-time : (c : tie.After-fix-at2) → c .fix-at2 .result .t .0 ≡ end (c .before .before .before .before)
-last-time c =
-    ap (λ (f : Fix). f .t) (c .fix-at2 .ensures)
-    ∙ ap (λ (n : ℕ). (fix-at trail (bytes (c .before .before .before .before)) (n - 1)) .t) (c .before .before .count-at .ensures .0)
+last-is : (c : tie.After-second-at2) → c .second-at2 .result .0 ≡ last-second (bytes (c .before .before .before .before))
+last-is c = c .second-at2 .ensures ∙ ap (λ (n : ℕ). (fix-at trail (bytes (c .before .before .before .before)) (n - 1)) .t) (c .before .before .count-at .ensures .0)
 
 -- what the two tests said
-window-said : (c : tie.After-window-outside) → c .window-outside .result ≡ window-outside (c .before .before .before .before .before .args .w .start .0) (c .before .before .before .before .before .args .w .end .0) (start (c .before .before .before .before .before)) (end (c .before .before .before .before .before))
-window-said c = c .window-outside .ensures ∙ rw (first-time (c .before), last-time (c .before)) refl
+window-said : (c : tie.After-window-outside) → c .window-outside .result ≡ window-outside (c .before .before .before .before .before .args .w .start .0) (c .before .before .before .before .before .args .w .end .0) (first-second (bytes (c .before .before .before .before .before))) (last-second (bytes (c .before .before .before .before .before)))
+window-said c = c .window-outside .ensures ∙ rw (c .before .before .second-at .ensures, last-is (c .before)) refl
 
-window-passed : (c : tie.Else1) → window-outside (c .before .before .before .before .before .before .args .w .start .0) (c .before .before .before .before .before .before .args .w .end .0) (start (c .before .before .before .before .before .before)) (end (c .before .before .before .before .before .before)) ≡ false
+window-passed : (c : tie.Else1) → window-outside (c .before .before .before .before .before .before .args .w .start .0) (c .before .before .before .before .before .before .args .w .end .0) (first-second (bytes (c .before .before .before .before .before .before))) (last-second (bytes (c .before .before .before .before .before .before))) ≡ false
 window-passed c = sym (window-said (c .before)) ∙ c .if1 .left
 
 box-passed : (c : tie.Else2) → edges-outside (boxOf (c .before .before .before .before .before .before .before .before .args .e)) ≡ false
@@ -49,14 +37,14 @@ box-passed c = sym (c .before .edges-outside .ensures) ∙ c .if2 .left
 count-at-requires : tie.Need-count-at-requires
 count-at-requires c κs = head (c .before) .ten
 
-fix-at-requires : tie.Need-fix-at-requires
-fix-at-requires c κs = let h = head (c .before .before) in omega (arith, h .some-fix, h .whole)
+second-at-requires : tie.Need-second-at-requires
+second-at-requires c κs = let h = head (c .before .before) in omega (arith, h .some-fix, h .whole)
 
-sub-fix-at : tie.Need-sub-fix-at
-sub-fix-at c = let h = head (c .before .before .before) in omega (arith, h .some-fix, c .before .count-at .ensures .0)
+sub-second-at : tie.Need-sub-second-at
+sub-second-at c = let h = head (c .before .before .before) in omega (arith, h .some-fix, c .before .count-at .ensures .0)
 
-fix-at-requires-2 : tie.Need-fix-at-requires-2
-fix-at-requires-2 c κs = let h = head (c .before .before .before) in omega (arith, h .some-fix, h .whole, c .before .count-at .ensures .0)
+second-at-requires-2 : tie.Need-second-at-requires-2
+second-at-requires-2 c κs = let h = head (c .before .before .before) in omega (arith, h .some-fix, h .whole, c .before .count-at .ensures .0)
 
 window-outside-requires : tie.Need-window-outside-requires
 window-outside-requires c κs = search needs
@@ -78,9 +66,9 @@ question-says-spec =
     tie.close
     (tie.spec
     count-at-requires
-    fix-at-requires
-    sub-fix-at
-    fix-at-requires-2
+    second-at-requires
+    sub-second-at
+    second-at-requires-2
     window-outside-requires
     returns
     edges-outside-requires

@@ -1,5 +1,8 @@
 use mathlib.Core.Path.{_∙_, ap}
-use Rattle.distance.specs.Fix.{Fix}
+use Prim.Native.Nat.{ℕ}
+use denote.Ref.{now}
+use Rattle.distance.specs.Fix.{Fix, fixOf}
+use Rattle.record.specs.Laws.Trail.{first-second}
 use Rattle.legs.specs.Legs.{raised}
 use borrow.Author.Needs.{needs}
 use Rattle.crossing.proofs.raised_at.Statement.{statement}
@@ -8,11 +11,17 @@ use Rattle.crossing.proofs.raised_at.Tie as tie
 fix-at-requires : tie.Need-fix-at-requires
 fix-at-requires c κs = search needs
 
+second-at-requires : tie.Need-second-at-requires
+second-at-requires c κs = search needs
+
 raise-requires : tie.Need-raise-requires
-raise-requires c κs = rw (c .fix-at .ensures) (c .before .before .pre .1)
+raise-requires c κs = rw (c .second-at .ensures, c .before .fix-at .ensures) (c .before .before .before .pre .1)
 
 returns : tie.Need-returns
-returns c = c .raise .ensures ∙ ap (λ (f : Fix). raised 16000 (c .before .before .before .args .zero .0) f) (c .before .fix-at .ensures)
+returns c =
+    c .raise .ensures
+    ∙ ap (λ (z : ℕ). raised 16000 z (fixOf (c .before .before .fix-at .result))) (c .before .second-at .ensures)
+    ∙ ap (λ (f : Fix). raised 16000 (first-second (now (c .before .before .before .before .args .b))) f) (c .before .before .fix-at .ensures)
 
 pub raised-at-spec : {M : Type 1} → statement M
-raised-at-spec = tie.close (tie.spec fix-at-requires raise-requires returns)
+raised-at-spec = tie.close (tie.spec fix-at-requires second-at-requires raise-requires returns)

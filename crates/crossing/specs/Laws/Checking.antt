@@ -21,7 +21,7 @@ use Rattle.record.specs.Laws.Accepted.{accepted-good}
 use Rattle.legs.specs.declared.Fraction.{Fraction}
 use Rattle.legs.specs.Legs.{framed}
 use Rattle.crossing.specs.Crossing.{first-from, first-crossing, asked-crossing, cross-refusal, cross-answer, Means, CrossMeans}
-use Rattle.record.specs.Laws.Trail.{from, fixes-from, ends-are, last-is, accepted-checked}
+use Rattle.record.specs.Laws.Trail.{from, fixes-from, ends-are, last-is, accepted-checked, first-second, last-second}
 use Rattle.legs.specs.Laws.Legs.{InLimit, BoxInLimit}
 use Rattle.crossing.specs.Laws.Search.{window-outside, edges-outside}
 use Rattle.crossing.specs.Laws.Crossing.{GoodWindow, crossing-means}
@@ -46,12 +46,13 @@ box-good b h =
     let l = neither (outside 16000 (b .y-high)) _ (k .1) in
     record { x-low = edge-good (b .x-low) (i .0); x-high = edge-good (b .x-high) (j .0); y-low = edge-good (b .y-low) (k .0); y-high = edge-good (b .y-high) (l .0) }
 
-module _ (b : List ℕ) (s e : ℕ) (box : Box) where
-  abbrev asks : Check → Bool
-  asks = sentence trail (asked-of trail b (asked-crossing s e box))
+-- those of the question itself
+abbrev pub own-checks : List Check
+own-checks = bad-window ∷ bad-box ∷ []
 
-  abbrev own-checks : List Check
-  own-checks = bad-window ∷ bad-box ∷ []
+module _ (b : List ℕ) (s e : ℕ) (box : Box) where
+  abbrev pub asks : Check → Bool
+  asks = sentence trail (asked-of trail b (asked-crossing s e box))
 
   -- one of checks 1 to 9 turns the bytes away
   pub cross-refused : (k : ℕ) → read-refusal trail b ≡ some k → cross-refusal trail b s e box ≡ some k
@@ -62,16 +63,10 @@ module _ (b : List ℕ) (s e : ℕ) (box : Box) where
     pub two-left : first asks ((head-checks ++ fix-checks) ++ own-checks) ≡ first asks own-checks
     two-left = none-first asks (head-checks ++ fix-checks) own-checks (reading-alone trail b (asked-crossing s e box) ∙ accepted .accepted)
 
-    abbrev start : ℕ
-    start = (fix-at trail b 0) .t
-
-    abbrev end : ℕ
-    end = (fix-at trail b (count-field b - 1)) .t
-
     some-fix : 1 ≤ count-field b
     some-fix = accepted-good b accepted .head .some-fix
 
-    window-says : asks bad-window ≡ window-outside s e start end
+    window-says : asks bad-window ≡ window-outside s e (first-second b) (last-second b)
     unfolding sentence
     window-says = rw (ends-are b (second-outside s) some-fix, ends-are b (second-outside e) some-fix) refl
 
@@ -79,41 +74,41 @@ module _ (b : List ℕ) (s e : ℕ) (box : Box) where
     unfolding sentence
     box-says = refl
 
-    pub cross-13 : window-outside s e start end ≡ true → cross-refusal trail b s e box ≡ some 13
+    pub cross-13 : window-outside s e (first-second b) (last-second b) ≡ true → cross-refusal trail b s e box ≡ some 13
     cross-13 h = two-left ∙ stops asks bad-window (bad-box ∷ []) (window-says ∙ h)
 
-    pub cross-14 : window-outside s e start end ≡ false → edges-outside box ≡ true → cross-refusal trail b s e box ≡ some 14
+    pub cross-14 : window-outside s e (first-second b) (last-second b) ≡ false → edges-outside box ≡ true → cross-refusal trail b s e box ≡ some 14
     cross-14 h k = two-left ∙ passes asks bad-window (bad-box ∷ []) (window-says ∙ h) ∙ stops asks bad-box [] (box-says ∙ k)
 
-    pub cross-none : window-outside s e start end ≡ false → edges-outside box ≡ false → cross-refusal trail b s e box ≡ none
+    pub cross-none : window-outside s e (first-second b) (last-second b) ≡ false → edges-outside box ≡ false → cross-refusal trail b s e box ≡ none
     cross-none h k = two-left ∙ passes asks bad-window (bad-box ∷ []) (window-says ∙ h) ∙ passes asks bad-box [] (box-says ∙ k) ∙ first-none asks
 
     -- what the search computes is the definition
-    pub crossing-is : first-crossing 16000 (fixes trail b) box s e ≡ first-from 16000 start (fix-at trail b 0) (from b 1 (count-field b)) (framed 16000 box) (s - start) (e - start)
+    pub crossing-is : first-crossing 16000 (fixes trail b) box s e ≡ first-from 16000 (first-second b) (fix-at trail b 0) (from b 1 (count-field b)) (framed 16000 box) (s - first-second b) (e - first-second b)
     unfolding first-crossing
     crossing-is = rw (fixes-from b some-fix) refl
 
     -- and means what the question means
-    pub accepted-means : window-outside s e start end ≡ false → edges-outside box ≡ false → Means (fixes trail b) box s e (first-crossing 16000 (fixes trail b) box s e)
+    pub accepted-means : window-outside s e (first-second b) (last-second b) ≡ false → edges-outside box ≡ false → Means (fixes trail b) box s e (first-crossing 16000 (fixes trail b) box s e)
     accepted-means h k =
-        let w = window-good s e start end h in
-        let l : end ≡ (last-of (fix-at trail b 0) (from b 1 (count-field b))) .t = ap (λ (f : Fix). f .t) (sym (last-is b (count-field b))) in
+        let w = window-good s e (first-second b) (last-second b) h in
+        let l : last-second b ≡ (last-of (fix-at trail b 0) (from b 1 (count-field b))) .t = ap (λ (f : Fix). f .t) (sym (last-is b (count-field b))) in
         rw (fixes-from b some-fix) (crossing-means _ _ box s e (accepted-checked b accepted) (box-good box k) (record { from = w .from; order = w .order; to = omega (arith, w .to, l) }))
 
 -- ---- what a question that none of its checks turns away has: an accepted record, a window of its times, and a box within the limits
 pub record Askable (b : List ℕ) (s e : ℕ) (box : Box) : Type 0 where
   pub is-accepted : IsAccepted trail b
-  pub window-passed : window-outside s e ((fix-at trail b 0) .t) ((fix-at trail b (count-field b - 1)) .t) ≡ false
+  pub window-passed : window-outside s e (first-second b) (last-second b) ≡ false
   pub box-passed : edges-outside box ≡ false
 
 pub cross-passed : (b : List ℕ) (s e : ℕ) (box : Box) → cross-refusal trail b s e box ≡ none → Askable b s e box
 cross-passed b s e box n =
-    let front = none-front (asks b s e box) (head-checks ++ fix-checks) (own-checks b s e box) n in
+    let front = none-front (asks b s e box) (head-checks ++ fix-checks) own-checks n in
     let accepted : IsAccepted trail b = record { accepted = sym (reading-alone trail b (asked-crossing s e box)) ∙ front } in
-    let p = own (none-holds (asks b s e box) (own-checks b s e box) (sym (none-first (asks b s e box) (head-checks ++ fix-checks) (own-checks b s e box) front) ∙ n)) in
+    let p = own (none-holds (asks b s e box) own-checks (sym (none-first (asks b s e box) (head-checks ++ fix-checks) own-checks front) ∙ n)) in
     record { is-accepted = accepted; window-passed = sym (window-says b s e box accepted) ∙ p .0; box-passed = sym (box-says b s e box accepted) ∙ p .1 }
   where
-    own : NoneHolds (asks b s e box) (own-checks b s e box) → (asks b s e box bad-window ≡ false) × (asks b s e box bad-box ≡ false)
+    own : NoneHolds (asks b s e box) own-checks → (asks b s e box bad-window ≡ false) × (asks b s e box bad-box ≡ false)
     own (and-not p (and-not q no-check)) = (p, q)
 
 -- ---- THE ANSWER ON LENT BYTES MEANS IT
@@ -136,5 +131,5 @@ asked-means b s e box a h = (h, rw h (cross-means b s e box))
 
 -- where no check turns the question away, the answer is what the search computes
 pub cross-gives : (b : List ℕ) (s e : ℕ) (box : Box) → cross-refusal trail b s e box ≡ none
-    → cross-answer trail b s e box ≡ gives (first-from 16000 ((fix-at trail b 0) .t) (fix-at trail b 0) (from b 1 (count-field b)) (framed 16000 box) (s - (fix-at trail b 0) .t) (e - (fix-at trail b 0) .t))
+    → cross-answer trail b s e box ≡ gives (first-from 16000 (first-second b) (fix-at trail b 0) (from b 1 (count-field b)) (framed 16000 box) (s - first-second b) (e - first-second b))
 cross-gives b s e box n = rw (n, crossing-is b s e box (cross-passed b s e box n .is-accepted)) refl

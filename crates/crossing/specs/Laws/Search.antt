@@ -17,7 +17,7 @@ use Rattle.legs.specs.declared.Frame.{Frame}
 use Rattle.legs.specs.Laws.Ranges.{Reach}
 use Rattle.legs.specs.Legs.{leg-first, raised}
 use Rattle.crossing.specs.Crossing.{or-else, first-from}
-use Rattle.record.specs.Laws.Trail.{CheckedTrail, from, from-next, from-end, next, leg-of, first-bounded, last-after, accepted-checked, lent}
+use Rattle.record.specs.Laws.Trail.{CheckedTrail, from, from-next, from-end, next, leg-of, first-bounded, last-after, accepted-checked, lent, first-second}
 use Rattle.distance.specs.Fix.{last-of}
 
 -- ---- the checks of a window and of a box, of the trail's first and last time
@@ -30,34 +30,36 @@ window-outside s e first last = ltb e s || (time-outside s first last || time-ou
 abbrev pub edges-outside : Box → Bool
 edges-outside b = outside 16000 (b .x-low) || (outside 16000 (b .x-high) || (outside 16000 (b .y-low) || (outside 16000 (b .y-high) || (ltZ (b .x-high) (b .x-low) || ltZ (b .y-high) (b .y-low)))))
 
--- the record is accepted, has n fixes, and its first time is zero
-pub record Seekable (b : List ℕ) (n zero : ℕ) : Type 0 where
+-- the record is accepted and has n fixes
+pub record Seekable (b : List ℕ) (n : ℕ) : Type 0 where
   pub is-accepted : IsAccepted trail b
   pub count : n ≡ count-field b
-  pub first-time : zero ≡ (fix-at trail b 0) .t
 
 -- what is left of the search: a is the fix before position k
-pub record Seek (b : List ℕ) (n z : ℕ) (f : Frame) (w v : ℕ) (a : Raised) (k : ℕ) : Type 0 where
+pub record Seek (b : List ℕ) (n : ℕ) (f : Frame) (w v : ℕ) (a : Raised) (k : ℕ) : Type 0 where
   pub some : 1 ≤ k
   pub few : k ≤ n
-  pub here : a ≡ raised 16000 z (fix-at trail b (k - 1))
+  pub here : a ≡ raised 16000 (first-second b) (fix-at trail b (k - 1))
   pub checked : CheckedTrail (fix-at trail b (k - 1)) (from b k n)
-  pub base : z ≤ (fix-at trail b (k - 1)) .t
-  pub last : (last-of (fix-at trail b (k - 1)) (from b k n)) .t ≤ z + 65535
-  pub left : first-from 16000 z (fix-at trail b 0) (from b 1 n) f w v ≡ first-from 16000 z (fix-at trail b (k - 1)) (from b k n) f w v
+  pub base : first-second b ≤ (fix-at trail b (k - 1)) .t
+  pub last : (last-of (fix-at trail b (k - 1)) (from b k n)) .t ≤ first-second b + 65535
+  pub left : first-from 16000 (first-second b) (fix-at trail b 0) (from b 1 n) f w v ≡ first-from 16000 (first-second b) (fix-at trail b (k - 1)) (from b k n) f w v
 
-checked-n : {b : List ℕ} {n z : ℕ} → Seekable b n z → CheckedTrail (fix-at trail b 0) (from b 1 n)
+checked-n : {b : List ℕ} {n : ℕ} → Seekable b n → CheckedTrail (fix-at trail b 0) (from b 1 n)
 checked-n {b} r = rw (r .count) (accepted-checked b (r .is-accepted))
 
-pub first-reach : {b : List ℕ} {n z : ℕ} → Seekable b n z → Reach z (fix-at trail b 0)
-first-reach {b} {n} {z} r = record { from = omega (arith, r .first-time); to = omega (arith, r .first-time); bounded = first-bounded (fix-at trail b 0) (from b 1 n) (checked-n r) }
+pub first-reach : {b : List ℕ} {n : ℕ} → Seekable b n → Reach (first-second b) (fix-at trail b 0)
+first-reach {b} {n} r = record { from = omega arith; to = omega arith; bounded = first-bounded (fix-at trail b 0) (from b 1 n) (checked-n r) }
 
-pub seek-start : {b : List ℕ} {n z : ℕ} {a : Raised} (f : Frame) (w v : ℕ) → Seekable b n z → a ≡ raised 16000 z (fix-at trail b 0) → Seek b n z f w v a 1
+pub seek-start : {b : List ℕ} {n : ℕ} {a : Raised} (f : Frame) (w v : ℕ) → Seekable b n → a ≡ raised 16000 (first-second b) (fix-at trail b 0) → Seek b n f w v a 1
 seek-start f w v r e =
     let c = checked-n r in
-    record { some = omega arith; few = lent (r .is-accepted) (r .count) .some; here = e; checked = c; base = omega (arith, r .first-time); last = omega (arith, r .first-time, c .short); left = refl }
+    record { some = omega arith; few = lent (r .is-accepted) (r .count) .some; here = e; checked = c; base = omega arith; last = c .short; left = refl }
 
-module _ {b : List ℕ} {n z : ℕ} {f : Frame} {w v : ℕ} {a : Raised} {k : ℕ} (x : Seek b n z f w v a k) where
+module _ {b : List ℕ} {n : ℕ} {f : Frame} {w v : ℕ} {a : Raised} {k : ℕ} (x : Seek b n f w v a k) where
+  abbrev z : ℕ
+  z = first-second b
+
   module _ (h : k < n) where
     ahead : CheckedTrail (fix-at trail b (k - 1)) (fix-at trail b k ∷ from b (k + 1) n)
     ahead = rw (from-next b k n h) at (x .checked)
@@ -82,7 +84,7 @@ module _ {b : List ℕ} {n z : ℕ} {f : Frame} {w v : ℕ} {a : Raised} {k : �
       pub seek-found : (o : Fraction) → leg-first a r f w v ≡ some o → first-from 16000 z (fix-at trail b 0) (from b 1 n) f w v ≡ some o
       seek-found o g = x .left ∙ step ∙ rw g refl
 
-      pub seek-next : leg-first a r f w v ≡ none → Seek b n z f w v r (k + 1)
+      pub seek-next : leg-first a r f w v ≡ none → Seek b n f w v r (k + 1)
       seek-next g =
           let m : k + 1 - 1 ≡ k = omega arith in
           record {

@@ -1,15 +1,17 @@
 -- THE ROUND TRIP. What is written is read again: the fixes, the mark and the count. And an accepted record, written again with its own mark, is its
 -- own bytes.
 use mathlib.Core.Path.{_≡_, refl, sym, _∙_, ap}
-use mathlib.Core.Bool.{Bool}
+use mathlib.Core.Bool.{Bool, true, false, cond}
 use mathlib.Core.List.{List, [], _∷_, _++_, map, append-assoc}
 use Prim.Native.Nat.{ℕ, zero, suc, _+_, _*_, _-_, _/_, _%_, _^_, _<_, _≤_}
 use native.Mathlib.Nat.{pow-suc}
 use native.Mathlib.Numerals.{add-one}
 use native.Mathlib.Omega.{arith}
+use lib.Dec.{ltb}
 use lib.ListN.{length, getD, take, drop, length-append}
 use lib.Seq.{getD-append-seam, drop-cons, take-add, drop-drop}
 use lib.IntN.{ℤ, pos, negsuc}
+use borrow.Author.Tests.{ltb-true}
 use mir.Syntax.{w16}
 use mir.Val.{SFits}
 use Rattle.distance.specs.Fix.{Fix}
@@ -17,7 +19,7 @@ use Rattle.distance.specs.Laws.All.{All, all-none, all-more, all-append, all-ma
 use Rattle.distance.specs.Integers.Tests.{Test, holds, fails, test}
 use Rattle.format.specs.Bytes.{number-at, bytes-of, signed, unsigned}
 use Rattle.format.specs.Format.{trail, each, fix-at, fix-bytes, all-bytes, header-bytes, record-bytes, length-field, kind-field, mark-field, count-field, fixes}
-use Rattle.format.specs.Laws.Numbers.{signed-low, signed-high, fix-parts}
+use Rattle.format.specs.Laws.Numbers.{signed-low, signed-high, fix-parts, false-true}
 use Rattle.format.specs.Laws.Each.{length-each}
 use Rattle.format.specs.Laws.Stores.{length-bytes}
 use Rattle.format.specs.Laws.Layout.{length-fix-bytes, length-header}
@@ -71,7 +73,7 @@ pub record Storable (f : Fix) : Type 0 where
 abbrev pub said : Fix → Fix
 said f = record { t = f .t; x = signed 2 (unsigned 2 (f .x)); y = signed 2 (unsigned 2 (f .y)) }
 
-storable : (f : Fix) → InRange f → Storable f
+pub storable : (f : Fix) → InRange f → Storable f
 storable f h = record { t-fits = h .t32; x-fits = coordinate (f .x) (h .x16) .small; y-fits = coordinate (f .y) (h .y16) .small }
 
 pub said-itself : (f : Fix) → SFits w16 (f .x) → SFits w16 (f .y) → said f ≡ f
@@ -106,7 +108,7 @@ read-fixes p r k len (all-more {m = f} {l} h t) =
     let n : length (p ++ F) ≡ 10 + 8 * suc k = length-append p F ∙ rw (len, length-fix-bytes f) (omega arith) in
     rw (ap (λ (b : List ℕ). fix-at trail b k) e ∙ read-fix p (M ++ r) k f len h, g) (ap (λ (m : List Fix). said f ∷ m) (read-fixes (p ++ F) r (suc k) n t))
 
-all-said : {l : List Fix} → All InRange l → map said l ≡ l
+pub all-said : {l : List Fix} → All InRange l → map said l ≡ l
 all-said all-none = refl
 all-said (all-more {m = f} {l} h t) = rw (said-itself f (h .x16) (h .y16), all-said t) refl
 
@@ -153,6 +155,20 @@ AreBytes = All (λ (x : ℕ). x < 256)
 pub are-bytes : (b : List ℕ) → ((i : ℕ) → getD b i 0 < 256) → AreBytes b
 are-bytes [] h = all-none
 are-bytes (n ∷ b) h = all-more (h 0) (are-bytes b (λ i. h (suc i)))
+
+-- bytes that are written out are found to be such by computing
+unfoldable pub all-below : List ℕ → Bool
+all-below [] = true
+all-below (n ∷ l) = cond (ltb n 256) (all-below l) false
+
+pub computed-bytes : (l : List ℕ) → all-below l ≡ true → AreBytes l
+unfolding all-below
+computed-bytes [] h = all-none
+computed-bytes (n ∷ l) h = go (ltb n 256) refl h (computed-bytes l)
+  where
+    go : (b : Bool) → ltb n 256 ≡ b → cond b (all-below l) false ≡ true → (all-below l ≡ true → AreBytes l) → AreBytes (n ∷ l)
+    go true e k r = all-more (ltb-true n 256 e) (r k)
+    go false e k r = absurd (false-true k)
 
 byte-at : {b : List ℕ} (at : ℕ) → AreBytes b → getD b at 0 < 256
 byte-at at all-none = omega arith
@@ -241,7 +257,7 @@ unfolding bytes-of
 bytes-are zero n = all-none
 bytes-are (suc size) n = all-more {m = n % 256} (omega arith) (bytes-are size (n / 256))
 
-fixes-are-bytes : (l : List Fix) → AreBytes (all-bytes trail l)
+pub fixes-are-bytes : (l : List Fix) → AreBytes (all-bytes trail l)
 unfolding all-bytes fix-bytes
 fixes-are-bytes [] = all-none
 fixes-are-bytes (f ∷ l) = all-append (all-append (bytes-are 4 (f .t)) (all-append (bytes-are 2 (unsigned 2 (f .x))) (bytes-are 2 (unsigned 2 (f .y))))) (fixes-are-bytes l)

@@ -25,7 +25,7 @@ use Rattle.distance.specs.Integers.Bounds.{abs-bound, Bound, _⊕_, of-width, f
 use Rattle.legs.specs.Laws.Legs.{InLimit}
 
 -- a leg that begins at start and takes so many seconds, all of one record
-pub record Clock (start takes : ℕ) : Type 0 where
+pub record LegFits (start takes : ℕ) : Type 0 where
   pub fits : start + takes ≤ 65535
 
 -- ---- the tests, decided
@@ -61,7 +61,7 @@ pub record Fits32 (A D v n : ℕ) : Type 0 where
   pub takes : D * n < 4294967296
   pub sum : A * v + D * n < 4294967296
 
-pub fits-32 : {A D v n : ℕ} → Clock A D → Fits w16 v → Fits w16 n → Fits32 A D v n
+pub fits-32 : {A D v n : ℕ} → LegFits A D → Fits w16 v → Fits w16 n → Fits32 A D v n
 fits-32 {A} {D} {v} {n} c fv fn =
     let p : A * v ≤ A * 65535 = mul-le-mul-left A (omega (arith, fv .fits)) in
     let q : D * n ≤ D * 65535 = mul-le-mul-left D (omega (arith, fn .fits)) in

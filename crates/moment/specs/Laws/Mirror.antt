@@ -21,10 +21,10 @@ use Rattle.distance.specs.Integers.Tests.{Test, holds, fails, test}
 use Rattle.format.specs.Bytes.{signed, unsigned}
 use Rattle.format.specs.Format.{trail, count-field, fixes}
 use Rattle.format.specs.Laws.RoundTrip.{AreBytes, InRange, Storable, said, said-itself, coordinate, bytes-in-range}
-use Rattle.format.specs.Laws.Changed.{changed-fixes}
-use Rattle.record.specs.Checks.{Check, misplaced, unordered, long-span, bad-moment, sentence, asked-of, fix-checks, refusal, placing, outside, fix-outside, too-long, moment-outside, IsAccepted}
+use Rattle.format.specs.Laws.Changed.{changed-head, changed-fixes}
+use Rattle.record.specs.Checks.{Check, misplaced, unordered, long-span, bad-moment, sentence, asked-of, fix-checks, refusal, head-refusal, placing, outside, fix-outside, too-long, moment-outside, IsAccepted}
 use Rattle.record.specs.Answers.{gives, answer}
-use Rattle.record.specs.Laws.Head.{Head}
+use Rattle.record.specs.Laws.Head.{Head, head-passed}
 use Rattle.record.specs.Laws.Accepted.{accepted-good, places-good}
 use Rattle.record.specs.Laws.Changed.{changed-refusal, outside-changed, early-changed, ends-changed}
 use Rattle.moment.specs.Moment.{asked-moment, at-moment, beside, place-answer}
@@ -119,10 +119,10 @@ module _ (m : Mirror) (b : List ℕ) (bytes : AreBytes b) where
   -- ---- THE ANSWER ON LENT BYTES, at the second s and t thousandths
   module _ (s t : ℕ) where
     -- no time moves, and no place leaves or enters the limit
-    same-checks : Head b → All (λ (c : Check). asks image s t c ≡ asks b s t c) (fix-checks ++ own-checks)
+    same-checks : head-refusal trail b ≡ none → All (λ (c : Check). asks image s t c ≡ asks b s t c) (fix-checks ++ own-checks)
     unfolding sentence
     same-checks h =
-        let e = said-fixes h in
+        let e = said-fixes (head-passed b h) in
         let l = fixes trail b in
         let places : asks image s t misplaced ≡ asks b s t misplaced = rw e (outside-changed (said-fix m) 16000 (all-map (as-outside m) in-range)) in
         let order : asks image s t unordered ≡ asks b s t unordered = rw e (early-changed (said-fix m) (λ a c. refl) l) in
@@ -131,7 +131,7 @@ module _ (m : Mirror) (b : List ℕ) (bytes : AreBytes b) where
         all-more places (all-more order (all-more span (all-more refl (all-more moment-in all-none))))
 
     same-refusal : refusal trail placing (asked-of trail image (asked-moment s t)) ≡ refusal trail placing (asked-of trail b (asked-moment s t))
-    same-refusal = changed-refusal (mirrored-fix m) b (asked-moment s t) (asked-moment s t) (fix-checks ++ own-checks) same-checks
+    same-refusal = changed-refusal b image (changed-head (mirrored-fix m) b) (asked-moment s t) (asked-moment s t) (fix-checks ++ own-checks) same-checks
 
     standing-mirrored : IsAccepted trail b → beside (at-moment (fixes trail image) s t) ≡ mirrored-standing m (beside (at-moment (fixes trail b) s t))
     standing-mirrored accepted = rw (mirrored-fixes accepted, moment-mirrored m (fixes trail b) s t) (beside-mirrored m (at-moment (fixes trail b) s t))

@@ -26,8 +26,7 @@ use Rattle.thinning.specs.Thinning.{thinned}
 use Rattle.aging.specs.Aging.{Call, by-tolerance, by-days, left-by, answered, applies, new-mark, record-at, thinned-record}
 use Rattle.thinning.specs.Laws.Trail.{again, no-more}
 use Rattle.thinning.specs.Laws.Near.{thinned-near}
-use Rattle.aging.specs.Laws.Aging.{age-reader, age-refused, days-refused}
-use Rattle.aging.specs.Laws.Step.{thins, step, applies-low}
+use Rattle.aging.specs.Laws.Step.{thins, step, left-refused, applies-low}
 use Rattle.questions.specs.Agings.{run, Book, new-book, greater, fed, fed-all, kept-at, mark-of, counts-as, AskedOf, call-of, calls-of, one-if-refused, refused-calls, run-answer}
 
 -- ---- what the buffer is after some of the calls: b is the original's buffer, c the present one
@@ -218,14 +217,10 @@ pub run-all : (b l : List ℕ) (i : ℕ) → length l ≤ i → run b (calls-of 
 run-all b l i h = rw (take-all i l h) refl
 
 -- ---- what the list answers: a refused record is left as it is by every call ..
-refused-call : (b : List ℕ) (k : ℕ) (c : Call) → read-refusal trail b ≡ some k → left-by b c ≡ b
-refused-call b k (by-tolerance e) h = sym (age-refused b e k (age-reader b e k h) .1)
-refused-call b k (by-days d) h = sym (days-refused b d k h .1)
-
 pub run-refused : (b : List ℕ) (k : ℕ) (calls : List Call) → read-refusal trail b ≡ some k → run b calls ≡ b
 unfolding run
 run-refused b k [] h = refl
-run-refused b k (c ∷ calls) h = ap (λ (l : List ℕ). run l calls) (refused-call b k c h) ∙ run-refused b k calls h
+run-refused b k (c ∷ calls) h = ap (λ (l : List ℕ). run l calls) (left-refused b k c h) ∙ run-refused b k calls h
 
 -- .. and so is what the call answers and leaves
 pub refused-run : (b l : List ℕ) (k : ℕ) → read-refusal trail b ≡ some k → (turns-away k ≡ run-answer b (calls-of l)) × (b ≡ run b (calls-of l))

@@ -8,14 +8,14 @@ use Rattle.distance.specs.Fix.{Fix}
 use Rattle.distance.specs.Box.{Box}
 use Rattle.format.specs.Format.{trail, fixes}
 use Rattle.format.specs.Laws.RoundTrip.{AreBytes}
-use Rattle.record.specs.Checks.{Check, IsAccepted, bad-window, bad-box, sentence, first, asked-of, of-ends, second-outside, read-refusal}
+use Rattle.record.specs.Checks.{IsAccepted, sentence, first, of-ends, second-outside, read-refusal}
 use Rattle.record.specs.Answers.{Answer, turns-away, answer}
 use Rattle.aging.specs.Aging.{Call, applies, record-at, thinned-record}
 use Rattle.thinning.specs.Laws.Trail.{SameEnds, no-fixes, same-ends, ends-stay}
 use Rattle.aging.specs.Laws.Step.{thins, step, applies-low}
 use Rattle.legs.specs.declared.Fraction.{Fraction}
-use Rattle.crossing.specs.Crossing.{asked-crossing, cross-refusal, cross-answer, first-crossing}
-use Rattle.crossing.specs.Laws.Checking.{two-left}
+use Rattle.crossing.specs.Crossing.{cross-refusal, cross-answer, first-crossing}
+use Rattle.crossing.specs.Laws.Checking.{asks, own-checks, two-left}
 use Rattle.questions.specs.Agings.{run, after-answer, left-after}
 use Rattle.questions.specs.Laws.Agings.{run-refused}
 
@@ -26,11 +26,8 @@ ends-same test no-fixes = refl
 ends-same test (same-ends {i} h) = ap (test i) h
 
 module _ (s e : ℕ) (box : Box) where
-  abbrev asks : List ℕ → Check → Bool
-  asks b = sentence trail (asked-of trail b (asked-crossing s e box))
-
   -- checks 13 and 14 ask the same of two buffers whose trails begin and end alike
-  same-asked : (b c : List ℕ) → SameEnds (fixes trail b) (fixes trail c) → first (asks c) (bad-window ∷ bad-box ∷ []) ≡ first (asks b) (bad-window ∷ bad-box ∷ [])
+  same-asked : (b c : List ℕ) → SameEnds (fixes trail b) (fixes trail c) → first (asks c s e box) own-checks ≡ first (asks b s e box) own-checks
   unfolding first sentence
   same-asked b c h = rw (ends-same (second-outside s) h, ends-same (second-outside e) h) refl
 

@@ -1,18 +1,17 @@
--- A record with each fix changed is refused as it was, if the checks of its fixes and of the call say the same of it: those of its head do.
+-- A record whose fixes are changed is refused as it was, if the checks of its fixes and of the call say the same of it: those of its head do.
 use mathlib.Core.Path.{_≡_, refl, sym, _∙_}
 use mathlib.Core.Bool.{Bool}
 use mathlib.Core.List.{List, [], _∷_, _++_, map}
 use mathlib.Core.Option.{Option, some, none}
 use Prim.Native.Nat.{ℕ}
-use native.Mathlib.Omega.{arith}
 use lib.Dec.{leb}
 use Rattle.distance.specs.Fix.{Fix, last-of}
-use Rattle.distance.specs.Laws.All.{All, all-none, all-more}
-use Rattle.format.specs.Format.{trail, changed}
-use Rattle.format.specs.Laws.Changed.{changed-size, changed-head}
-use Rattle.record.specs.Checks.{Check, Given, sentence, first, asked-of, head-checks, fix-outside, some-outside, some-early-after, some-early, of-ends}
+use Rattle.distance.specs.Laws.All.{All, all-none, all-more, last-mapped}
+use Rattle.format.specs.Format.{trail}
+use Rattle.format.specs.Laws.Changed.{SameHead}
+use Rattle.record.specs.Checks.{Check, Given, sentence, first, head-checks, head-refusal, fix-outside, some-outside, some-early-after, some-early, of-ends}
 use Rattle.record.specs.Laws.First.{some-first, none-first}
-use Rattle.record.specs.Laws.Head.{Head, says, head-passed}
+use Rattle.record.specs.Laws.Head.{asks}
 
 -- sentences that say the same find the same first check
 first-same : {says others : Check → Bool} {l : List Check} → All (λ (c : Check). others c ≡ says c) l → first others l ≡ first says l
@@ -20,32 +19,24 @@ unfolding first
 first-same all-none = refl
 first-same (all-more h t) = rw (h, first-same t) refl
 
--- ---- THE REFUSAL of a record whose fixes are changed by f, asked g before and h after: the checks of its head say the same, and if none of them turns it away
--- the others are reached
-module _ (f : Fix → Fix) (b : List ℕ) (g h : Given) where
-  abbrev asks : Check → Bool
-  asks = sentence trail (asked-of trail b g)
-
-  abbrev asks-changed : Check → Bool
-  asks-changed = sentence trail (asked-of trail (changed trail f b) h)
-
-  head-same : first asks-changed head-checks ≡ first asks head-checks
+-- ---- THE REFUSAL of a record c that has the head of b, asked g of b and h of c: the checks of the head say the same, and if none of them turns b away the
+-- others are reached
+module _ (b c : List ℕ) (same-head : SameHead b c) (g h : Given) where
+  pub head-same : first (asks c h) head-checks ≡ first (asks b g) head-checks
   unfolding first sentence
-  head-same = rw (changed-size f b, changed-head f b 0 4 (omega arith), changed-head f b 4 2 (omega arith), changed-head f b 6 2 (omega arith), changed-head f b 8 2 (omega arith)) refl
+  head-same = rw (same-head .same-size, same-head .same-length, same-head .same-kind, same-head .same-mark, same-head .same-count) refl
 
   -- the head's checks ask for nothing that the call is handed
-  head-alone : first asks head-checks ≡ first (says b) head-checks
+  head-alone : first (asks b g) head-checks ≡ head-refusal trail b
   unfolding first sentence
   head-alone = refl
 
-  pub changed-refusal : (l : List Check) → (Head b → All (λ (c : Check). asks-changed c ≡ asks c) l) → first asks-changed (head-checks ++ l) ≡ first asks (head-checks ++ l)
-  changed-refusal l same = go (first asks head-checks) refl
+  pub changed-refusal : (l : List Check) → (head-refusal trail b ≡ none → All (λ (q : Check). asks c h q ≡ asks b g q) l) → first (asks c h) (head-checks ++ l) ≡ first (asks b g) (head-checks ++ l)
+  changed-refusal l same = go (first (asks b g) head-checks) refl
     where
-      go : (r : Option ℕ) → first asks head-checks ≡ r → first asks-changed (head-checks ++ l) ≡ first asks (head-checks ++ l)
-      go (some k) e = some-first asks-changed head-checks l k (head-same ∙ e) ∙ sym (some-first asks head-checks l k e)
-      go none e =
-          none-first asks-changed head-checks l (head-same ∙ e)
-          ∙ first-same (same (head-passed b (sym head-alone ∙ e))) ∙ sym (none-first asks head-checks l e)
+      go : (r : Option ℕ) → first (asks b g) head-checks ≡ r → first (asks c h) (head-checks ++ l) ≡ first (asks b g) (head-checks ++ l)
+      go (some k) e = some-first (asks c h) head-checks l k (head-same ∙ e) ∙ sym (some-first (asks b g) head-checks l k e)
+      go none e = none-first (asks c h) head-checks l (head-same ∙ e) ∙ first-same (same (sym head-alone ∙ e)) ∙ sym (none-first (asks b g) head-checks l e)
 
 -- ---- what the checks say of the fixes, each changed by f
 module _ (f : Fix → Fix) where
@@ -67,13 +58,8 @@ module _ (f : Fix → Fix) where
     early-changed [] = refl
     early-changed (a ∷ l) = early-after-changed a l
 
-  last-changed : (a : Fix) (l : List Fix) → last-of (f a) (map f l) ≡ f (last-of a l)
-  unfolding last-of
-  last-changed a [] = refl
-  last-changed a (b ∷ l) = last-changed b l
-
   -- and of the first and the last it is said what was said before, if it is of each two
   pub ends-changed : (before after : Fix → Fix → Bool) → ((a b : Fix) → after (f a) (f b) ≡ before a b) → (l : List Fix) → of-ends after (map f l) ≡ of-ends before l
   unfolding of-ends
   ends-changed before after same [] = refl
-  ends-changed before after same (a ∷ l) = rw (last-changed a l) (same a (last-of a l))
+  ends-changed before after same (a ∷ l) = rw (last-mapped f a l) (same a (last-of a l))

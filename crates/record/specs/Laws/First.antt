@@ -1,12 +1,13 @@
 -- The first check whose sentence holds.
-use mathlib.Core.Path.{_≡_, refl, sym}
+use mathlib.Core.Path.{_≡_, refl, sym, ap}
 use mathlib.Core.Logic.{_↔_}
 use mathlib.Core.Bool.{Bool, true, false, cond}
 use mathlib.Core.List.{List, [], _∷_, _++_, map}
-use mathlib.Core.Option.{some, none}
+use mathlib.Core.Option.{Option, some, none}
 use Prim.Native.Nat.{ℕ}
 use native.Mathlib.Omega.{arith}
 use Rattle.format.specs.Format.{Kind}
+use Rattle.record.specs.Answers.{gives, answer}
 use Rattle.record.specs.Checks.{Check, Given, Asked, number, order, first, FirstHolds, this, not-before, sentence, asked-of, refusal, reading, writing, aging, aging-by-days, placing, crossing, read-refusal}
 
 pub some-none : {k : ℕ} → some k ≡ none → ⊥
@@ -91,6 +92,11 @@ module _ (says : Check → Bool) where
       go : (b : Bool) → says c ≡ b → cond b (some (number c)) (first says l) ≡ none → (first says l ≡ none → NoneHolds l) → NoneHolds (c ∷ l)
       go true e h r = absurd (some-none h)
       go false e h r = and-not e (r h)
+
+-- what is given where nothing is turned away decides the answer alone
+pub answer-same : {A : Type 0} (r : Option ℕ) {x y : A} → (r ≡ none → x ≡ y) → answer r x ≡ answer r y
+answer-same (some k) e = refl
+answer-same none e = ap gives (e refl)
 
 -- ---- a call's refusal does not hang on what the call does not take
 pub reading-alone : (K : Kind) (b : List ℕ) (g : Given) → refusal K reading (asked-of K b g) ≡ read-refusal K b

@@ -9,7 +9,7 @@ use lib.Dec.{ltb, eqb}
 use lib.ListN.{length}
 use borrow.Author.Tests.{lt-ltb, le-ltb, eq-eqb, ne-eqb, ltb-false, eqb-true, eqb-false, not-false}
 use Rattle.format.specs.Format.{trail, length-field, kind-field, mark-field, count-field}
-use Rattle.record.specs.Checks.{Check, few-bytes, other-kind, bad-count, bad-length, short-record, bad-mark, first, sentence, asked-of, nothing, head-checks, fix-checks, read-refusal}
+use Rattle.record.specs.Checks.{Check, few-bytes, other-kind, bad-count, bad-length, short-record, bad-mark, sentence, Given, asked-of, nothing, head-checks, fix-checks, read-refusal, head-refusal}
 use Rattle.record.specs.Laws.First.{NoneHolds, no-check, and-not, none-holds, none-front}
 
 -- the checks from the sixth on, from the fifth on, and so on
@@ -28,9 +28,13 @@ from-3 = bad-count ∷ from-4
 abbrev pub from-2 : List Check
 from-2 = other-kind ∷ from-3
 
+-- what is said of lent bytes, and of what a call is handed beside them
+abbrev pub asks : List ℕ → Given → Check → Bool
+asks b g = sentence trail (asked-of trail b g)
+
 -- each sentence, decided
 abbrev pub says : List ℕ → Check → Bool
-says b = sentence trail (asked-of trail b nothing)
+says b = asks b nothing
 
 module _ (b : List ℕ) where
   pub few : length b < 10 → says b few-bytes ≡ true
@@ -117,7 +121,7 @@ pub positive : (n : ℕ) → (n ≡ 0 → ⊥) → 1 ≤ n
 positive zero f = absurd (f refl)
 positive (suc n) f = omega arith
 
-pub head-passed : (b : List ℕ) → first (says b) head-checks ≡ none → Head b
+pub head-passed : (b : List ℕ) → head-refusal trail b ≡ none → Head b
 unfolding sentence
 head-passed b h = go (none-holds (says b) head-checks h)
   where

@@ -89,7 +89,13 @@ pub ends-are : (b : List ℕ) (test : Fix → Fix → Bool) → 1 ≤ count-fiel
 unfolding of-ends
 ends-are b test h = rw (fixes-from b h, last-is b (count-field b)) refl
 
-pub span-is : (b : List ℕ) → IsAccepted trail b → (fix-at trail b (count-field b - 1)) .t ≤ (fix-at trail b 0) .t + 65535
+abbrev pub first-second : List ℕ → ℕ
+first-second b = (fix-at trail b 0) .t
+
+abbrev pub last-second : List ℕ → ℕ
+last-second b = (fix-at trail b (count-field b - 1)) .t
+
+pub span-is : (b : List ℕ) → IsAccepted trail b → last-second b ≤ first-second b + 65535
 span-is b h = let c = accepted-checked b h in rw (last-is b (count-field b)) at (c .short)
 
 -- how far the bytes of an accepted record of n fixes reach

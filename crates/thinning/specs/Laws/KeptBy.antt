@@ -2,7 +2,7 @@
 use mathlib.Core.Path.{_≡_, refl, _∙_, ap}
 use mathlib.Core.Bool.{Bool, true, false, cond}
 use mathlib.Core.Logic.{⊎-elim}
-use mathlib.Core.List.{List, [], _∷_, _++_, append-nil}
+use mathlib.Core.List.{List, [], _∷_, _++_, append-nil, map}
 use Prim.Native.Nat.{ℕ, zero, suc, _+_, _-_, _<_, _≤_}
 use native.Mathlib.Nat.{le-refl, eq-or-lt-of-le}
 use native.Mathlib.Omega.{arith}
@@ -53,6 +53,16 @@ module _ {A : Type 0} (marks : List Bool) where
       go : {x : List A} (y z : List A) (b : Bool) → x ≡ y ++ z → cond b (i ∷ x) x ≡ cond b (i ∷ y) y ++ z
       go y z true h = ap (λ (l : List A). i ∷ l) h
       go y z false h = h
+
+  -- of others in their places marks keep those at the same positions
+  pub kept-by-mapped : (f : A → A) (k : ℕ) (l : List A) → kept-by marks k (map f l) ≡ map f (kept-by marks k l)
+  unfolding kept-by
+  kept-by-mapped f k [] = refl
+  kept-by-mapped f k (i ∷ l) = rw (kept-by-mapped f (suc k) l) (go (getD marks k false))
+    where
+      go : (b : Bool) → cond b (f i ∷ map f (kept-by marks (suc k) l)) (map f (kept-by marks (suc k) l)) ≡ map f (cond b (i ∷ kept-by marks (suc k) l) (kept-by marks (suc k) l))
+      go true = refl
+      go false = refl
 
   pub kept-by-length : (k : ℕ) (l : List A) → length (kept-by marks k l) ≤ length l
   unfolding kept-by

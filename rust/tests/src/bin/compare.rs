@@ -1,11 +1,12 @@
-//! Many random cases of all operations, by the C interface and by the plain version: `compare [--cases N] [--seed S]`.
-//! A difference is printed with the smallest trail found that shows it, and the exit status is 1.
+//! Many random cases of all operations, by the C interface and by the plain version, and moved in time by the C interface
+//! again: `compare [--cases N] [--seed S]`. A difference is printed with the smallest trail found that shows it, and the
+//! exit status is 1.
 #![forbid(unsafe_code)]
 
 use std::process::ExitCode;
 
 use trails_tests::cases::Settings;
-use trails_tests::compare::{plain, proved, run, Case, Outcome, Sides};
+use trails_tests::compare::{plain, proved, run, twin, Case, Outcome, Sides};
 
 const USUAL: Settings = Settings {
     seed: 20_240_229,
@@ -63,10 +64,19 @@ fn hex(bytes: &[u8]) -> String {
 
 fn show(case: &Case) {
     println!("a difference, made as small as it is still one:");
-    println!("operation  {:?}", case.operation);
-    println!("buffer     {}", hex(&case.buffer));
+    show_given(case);
     show_outcome("interface", case, &proved(case));
     show_outcome("plain", case, &plain(case));
+    if let Some(twin) = twin::differing(&proved, case) {
+        println!("moved in time it comes out otherwise:");
+        show_given(&twin);
+        show_outcome("interface", &twin, &proved(&twin));
+    }
+}
+
+fn show_given(case: &Case) {
+    println!("operation  {:?}", case.operation);
+    println!("buffer     {}", hex(&case.buffer));
 }
 
 /// The answer, and what was lent where it isn't as before.

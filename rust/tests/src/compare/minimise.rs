@@ -262,11 +262,17 @@ impl Case {
     }
 
     /// The times of the writer's column or of the buffer's fixes.
-    fn times(&self) -> Vec<u32> {
-        let time = |k| u32::from_le_bytes(self.array(record_length(k)));
+    pub(super) fn times(&self) -> Vec<u32> {
+        let many = self
+            .written()
+            .map_or(self.fixes(), |columns| columns.t.len());
+        (0..many).map(|k| self.time(k)).collect()
+    }
+
+    fn time(&self, k: usize) -> u32 {
         match self.written() {
-            Some(columns) => columns.t.clone(),
-            None => (0..self.fixes()).map(time).collect(),
+            Some(columns) => columns.t[k],
+            None => u32::from_le_bytes(self.array(record_length(k))),
         }
     }
 
@@ -289,26 +295,36 @@ impl Case {
 
     /// Moves the fix's time, and all that are as late or later, to where the gap is this.
     fn with_gap(&self, k: usize, gap: i128) -> Case {
-        let mut case = self.clone();
+        let by = (gap - self.gap(k)) as u32;
         let times = self.times();
-        let by = (self.gap(k) - gap) as u32;
-        for (at, &t) in times.iter().enumerate().skip(k) {
-            case.set_time(at, t.wrapping_sub(by));
+        self.moved(k..times.len(), times[k], by)
+    }
+
+    /// Moves the times at these positions, and those asked seconds that aren't before `from`, by so many seconds modulo
+    /// 2³².
+    pub(super) fn moved(&self, positions: Range<usize>, from: u32, by: u32) -> Case {
+        let mut case = self.clone();
+        for k in positions {
+            case.set_time(k, self.time(k).wrapping_add(by));
         }
-        let earlier = |t: &mut u32| {
-            if *t >= times[k] {
-                *t = t.wrapping_sub(by);
+        for second in case.asked_seconds() {
+            if *second >= from {
+                *second = second.wrapping_add(by);
             }
-        };
-        match &mut case.operation {
-            Operation::Place(moment) => earlier(&mut moment.second),
-            Operation::Crosses(question) | Operation::CrossesAfter(_, question) => {
-                earlier(&mut question.window.start);
-                earlier(&mut question.window.end);
-            }
-            _ => {}
         }
         case
+    }
+
+    /// The seconds that are asked about.
+    pub(super) fn asked_seconds(&mut self) -> Vec<&mut u32> {
+        match &mut self.operation {
+            Operation::Place(moment) => vec![&mut moment.second],
+            Operation::Crosses(Question { window, .. })
+            | Operation::CrossesAfter(_, Question { window, .. }) => {
+                vec![&mut window.start, &mut window.end]
+            }
+            _ => Vec::new(),
+        }
     }
 }
 

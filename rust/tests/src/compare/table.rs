@@ -31,6 +31,7 @@ pub struct Table {
     /// by refusal, 0 for none, and operation
     met: [[usize; OPERATIONS.len()]; 16],
     said: BTreeMap<&'static str, usize>,
+    pub(super) twins: usize,
 }
 
 /// What answers that aren't refusals may say, or what they may be given to, each by its name.
@@ -173,6 +174,7 @@ impl fmt::Display for Table {
                 .collect();
             writeln!(f, "{group}: {}", shown.join(", "))?;
         }
+        writeln!(f, "twins: {}", self.twins)?;
         write!(f, "{} cases, 0 differences", self.cases())
     }
 }

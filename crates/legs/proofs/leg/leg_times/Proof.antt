@@ -3,7 +3,7 @@ use native.Mathlib.Omega.{arith}
 use mir.Syntax.{w16}
 use mir.Val.{Fits}
 use Rattle.legs.specs.Legs.{leg-times}
-use Rattle.legs.specs.Laws.Ranges.{Clock}
+use Rattle.legs.specs.Laws.Ranges.{LegFits}
 use borrow.Author.Needs.{needs}
 use Rattle.legs.proofs.leg.leg_times.Statement.{statement}
 use Rattle.legs.proofs.leg.leg_times.Tie as tie
@@ -11,7 +11,7 @@ use Rattle.legs.proofs.leg.leg_times.Tie as tie
 ends : (s : tie.Start) → Fits w16 (s .args .b .t .0)
 ends s = search needs
 
-clock : (c : tie.After-elapsed) → Clock (c .before .before .args .a .t .0) (c .elapsed .result .0)
+clock : (c : tie.After-elapsed) → LegFits (c .before .before .args .a .t .0) (c .elapsed .result .0)
 clock c = let e = ends (c .before .before) in record { fits = omega (arith, e .fits, c .elapsed .ensures, c .before .before .pre) }
 
 elapsed-requires : tie.Need-elapsed-requires

@@ -1,3 +1,4 @@
+use Rattle.distance.specs.Integers.Differences.{sub-of-pos}
 use Rattle.legs.specs.Laws.Ranges.{raised-parts}
 use borrow.Author.Needs.{needs}
 use Rattle.legs.proofs.leg.raise.Statement.{statement}
@@ -13,7 +14,7 @@ place-offset-requires-2 : tie.Need-place-offset-requires-2
 place-offset-requires-2 c κs = search needs
 
 returns : tie.Need-returns
-returns c = raised-parts _ _ _ _ _ _ (c .before .before .since .ensures) (c .before .place-offset .ensures) (c .place-offset2 .ensures)
+returns c = raised-parts _ _ _ _ _ _ (sub-of-pos (c .before .before .before .pre .from) (c .before .before .since .ensures)) (c .before .place-offset .ensures) (c .place-offset2 .ensures)
 
 pub raise-spec : {M : Type 1} → statement M
 raise-spec = tie.close (tie.spec since-requires place-offset-requires place-offset-requires-2 returns)
