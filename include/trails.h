@@ -110,13 +110,13 @@ struct trails_place {
 
 /* Whether a cart was in a box. crosses is 1 for yes and 0 for no. A yes has the
  * earliest time, numerator / denominator seconds after the first fix, with a
- * denominator from 1 to 32,000. The fraction isn't reduced: its denominator is the
- * centimetres that the cart goes in x, or in y, from one fix to the next, if that
- * coordinate comes to the box just then, and 1 if the fix or the window's start is
- * just then; of equal times the first of fix, window, x and y. So compare two by
- * their value; but the same trail and window at another time of the clock have the
- * same numerator and denominator. Of a no both are 0, and where refusal isn't 0 all
- * else is. */
+ * denominator from 1 to 32,000. The fraction isn't reduced. It is of the first two
+ * neighbouring fixes between which the cart is in the box: its denominator is 1 if
+ * the former of them or the window's start is just then, else the centimetres that
+ * the cart goes from one to the other in the coordinate that comes to the box last,
+ * in x if both come at once. So compare two by their value; but the same trail and
+ * window at another time of the clock have the same numerator and denominator. Of a
+ * no both are 0, and where refusal isn't 0 all else is. */
 struct trails_crossing {
     uint32_t refusal;
     uint32_t crosses;

@@ -1,20 +1,25 @@
 -- THE AGINGS IN NUMBERS. Days and bytes, written out, and what document 01 says of them: the definitions and the code cannot be changed together without
 -- these rows. Each line is computed.
-use mathlib.Core.Path.{refl}
+use mathlib.Core.Path.{_≡_, refl}
+use mathlib.Core.Bool.{Bool, true, false}
 use mathlib.Core.List.{List, [], _∷_, _++_}
 use mathlib.Core.Option.{Option, some, none}
 use Prim.Native.Nat.{ℕ}
+use lib.IntN.{pos}
 use Rattle.distance.specs.Examples.{Computes}
 use Rattle.distance.specs.Fix.{last-of}
-use Rattle.distance.specs.Laws.All.{All, all-always}
+use Rattle.distance.specs.Laws.All.{All, all-none, all-more, all-always}
+use Rattle.distance.specs.Laws.Clock.{computed-stays}
 use Rattle.distance.specs.Distance.{deviation, allowance}
 use Rattle.format.specs.Bytes.{number-at, bytes-of, signed, unsigned}
-use Rattle.format.specs.Format.{trail, fix-at, each, fix-bytes, all-bytes, header-bytes, record-bytes}
+use Rattle.format.specs.Format.{trail, fixes, fix-at, each, fix-bytes, all-bytes, header-bytes, record-bytes}
 use Rattle.format.specs.Examples.{document-bytes}
+use Rattle.format.specs.Laws.RoundTrip.{all-below, computed-bytes}
 use Rattle.record.specs.Checks.{sentence, first, some-outside, some-early-after, some-early, of-ends}
 use Rattle.record.specs.Answers.{Answer, gives, turns-away}
 use Rattle.record.specs.Examples.{read-rows, on-refused, MovableRow, movable-rows}
 use Rattle.record.specs.Moved.{moved-record}
+use Rattle.thinning.specs.Marks.{kept-by}
 use Rattle.thinning.specs.Thinning.{sooner, furthest, every, but-last, thin-span, thin, thinning}
 use Rattle.aging.specs.Aging.{new-mark, thinned-record, last-row, days-give, Call, by-tolerance, by-days, left-by, answered}
 use Rattle.aging.specs.Laws.Moved.{AgedAlike, aged-moved}
@@ -74,3 +79,32 @@ calls-computed = refl
 -- ---- the law of a moved clock, of bytes that are accepted and of refused ones
 pub movable-aged : All (λ (m : MovableRow). AgedAlike (m .by) (m .buffer) (moved-record trail (m .by) (m .buffer)) (by-days 7)) movable-rows
 movable-aged = all-always (λ (m : MovableRow). aged-moved (m .by) (m .buffer) (m .bytes) (m .movable) (by-days 7)) movable-rows
+
+-- The trail of document 01's row b, a straight line of three fixes, at 0, 10 and 20 seconds.
+abbrev pub straight : List ℕ
+straight =
+    34 ∷ 0 ∷ 0 ∷ 0 ∷ 1 ∷ 0 ∷ 255 ∷ 255 ∷ 3 ∷ 0
+    ∷ 0 ∷ 0 ∷ 0 ∷ 0 ∷ 0 ∷ 0 ∷ 0 ∷ 0
+    ∷ 10 ∷ 0 ∷ 0 ∷ 0 ∷ 100 ∷ 0 ∷ 0 ∷ 0
+    ∷ 20 ∷ 0 ∷ 0 ∷ 0 ∷ 200 ∷ 0 ∷ 0 ∷ 0
+    ∷ []
+
+-- Tolerance 0 keeps the first and the last of them, ..
+abbrev pub ends-marked : List Bool
+ends-marked = true ∷ false ∷ true ∷ []
+
+pub straight-kept : fixes trail (left-by straight (by-tolerance 0)) ≡ kept-by ends-marked 0 (fixes trail straight)
+unfolding kept-by thinned-record new-mark thinning thin thin-span furthest sooner every but-last last-of deviation allowance first sentence some-outside some-early-after some-early of-ends fix-at each number-at signed unsigned bytes-of fix-bytes all-bytes header-bytes record-bytes
+straight-kept = refl
+
+-- .. and the same positions of the trail moved to the last second of 32 bits.
+straight-alike : AgedAlike (pos 4294967275) straight (moved-record trail (pos 4294967275) straight) (by-tolerance 0)
+unfolding all-below fix-at each number-at
+straight-alike =
+    let stays = computed-stays (pos 4294967275) in
+    aged-moved (pos 4294967275) straight (computed-bytes straight refl)
+    (record { all-stay = (λ h. all-more (stays 0 tt tt) (all-more (stays 10 tt tt) (all-more (stays 20 tt tt) all-none))) }) (by-tolerance 0)
+
+pub straight-moved : fixes trail (left-by (moved-record trail (pos 4294967275) straight) (by-tolerance 0)) ≡ kept-by ends-marked 0 (fixes trail (moved-record trail (pos 4294967275) straight))
+unfolding first sentence number-at
+straight-moved = straight-alike .same-positions refl ends-marked straight-kept

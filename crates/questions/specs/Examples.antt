@@ -15,6 +15,7 @@ use Rattle.record.specs.Checks.{IsAccepted, sentence, first, some-outside, some
 use Rattle.record.specs.Answers.{Answer, gives, turns-away}
 use Rattle.format.specs.Laws.RoundTrip.{AreBytes, all-below, computed-bytes}
 use Rattle.thinning.specs.Thinning.{sooner, furthest, every, but-last, thin-span, thin, thinning}
+use Rattle.aging.specs.Examples.{straight}
 use Rattle.aging.specs.Aging.{Call, by-tolerance, by-days, new-mark, thinned-record, last-row}
 use Rattle.legs.specs.declared.Fraction.{Fraction}
 use Rattle.crossing.specs.Crossing.{first-crossing, first-from, cross-answer}
@@ -50,15 +51,7 @@ left-at-25 = two-fixes (20 ∷ 0 ∷ 0 ∷ 0 ∷ 20 ∷ 0 ∷ 0 ∷ 0 ∷ old-re
 abbrev pub left-at-12-and-25 : List ℕ
 left-at-12-and-25 = two-fixes (30 ∷ 0 ∷ 0 ∷ 0 ∷ 0 ∷ 0 ∷ 0 ∷ 0 ∷ old-rest)
 
--- the trail of row b, a straight line of three fixes, and the same after thinning at 0: the bytes from the new length on are as they were
-abbrev pub straight : List ℕ
-straight =
-    34 ∷ 0 ∷ 0 ∷ 0 ∷ 1 ∷ 0 ∷ 255 ∷ 255 ∷ 3 ∷ 0
-    ∷ 0 ∷ 0 ∷ 0 ∷ 0 ∷ 0 ∷ 0 ∷ 0 ∷ 0
-    ∷ 10 ∷ 0 ∷ 0 ∷ 0 ∷ 100 ∷ 0 ∷ 0 ∷ 0
-    ∷ 20 ∷ 0 ∷ 0 ∷ 0 ∷ 200 ∷ 0 ∷ 0 ∷ 0
-    ∷ []
-
+-- the straight trail after thinning at 0: the bytes from the new length on are as they were
 abbrev pub straight-at-0 : List ℕ
 straight-at-0 =
     26 ∷ 0 ∷ 0 ∷ 0 ∷ 1 ∷ 0 ∷ 0 ∷ 0 ∷ 2 ∷ 0

@@ -93,16 +93,10 @@ impl PartialEq for Crossed {
 
 impl From<Crossing> for Crossed {
     fn from(answer: Crossing) -> Crossed {
-        let Crossing {
-            refusal,
-            crosses,
-            numerator,
-            denominator,
-        } = answer;
-        match (refusal, crosses, numerator, denominator) {
-            (1.., 0, 0, 0) => Crossed::Refused(refusal),
-            (0, 0, 0, 0) => Crossed::No,
-            (0, 1, _, 1..=32_000) => Crossed::Yes(Time {
+        match interface::numbers(answer) {
+            [0, 0, 0, 0] => Crossed::No,
+            [refusal, 0, 0, 0] => Crossed::Refused(refusal),
+            [0, 1, numerator, denominator @ 1..=32_000] => Crossed::Yes(Time {
                 p: numerator.into(),
                 q: denominator.into(),
             }),

@@ -25,6 +25,17 @@ fn asked(question: &Question) -> offered::Question {
     }
 }
 
+/// All that an answer to the crossing question says: refusal, yes, numerator and denominator.
+pub fn numbers(answer: Crossing) -> [u32; 4] {
+    let Crossing {
+        refusal,
+        crosses,
+        numerator,
+        denominator,
+    } = answer;
+    [refusal, crosses, numerator, denominator]
+}
+
 pub fn crosses(record: &[u8], question: &Question) -> Crossing {
     offered::crosses(record, asked(question))
 }

@@ -2,7 +2,7 @@
 #![forbid(unsafe_code)]
 
 use trails_tests::cases::{buffer, Random, Settings, Tally};
-use trails_tests::interface::Crossing;
+use trails_tests::interface::{numbers, Crossing};
 use trails_tests::plain::crossing::{Area, Question, Window};
 use trails_tests::plain::place::Time;
 use trails_tests::plain::{Fix, MOST_FIXES};
@@ -229,14 +229,8 @@ fn a_trail_and_its_window_moved_alike_have_the_same_answer() {
             };
             let fix = |&(t, x, y): &(u32, i16, i16)| Fix::from((t - 100 + first, x, y));
             let fixes: Vec<Fix> = SLOPES.fixes.iter().map(fix).collect();
-            let answer = crosses(&buffer(&fixes), &question, &format!("from {first}"));
-            let Crossing {
-                refusal,
-                crosses,
-                numerator,
-                denominator,
-            } = answer;
-            Some([refusal, crosses, numerator, denominator])
+            let name = format!("from {first}");
+            Some(numbers(crosses(&buffer(&fixes), &question, &name)))
         });
         let answers: Vec<[u32; 4]> = asked.collect();
         let many = if expected[0] == 0 { 4 } else { 3 };

@@ -15,10 +15,10 @@ use Rattle.format.specs.Format.{trail, count-field, fixes, fix-at}
 use Rattle.format.specs.Laws.Each.{length-each}
 use Rattle.format.specs.Laws.RoundTrip.{AreBytes}
 use Rattle.format.specs.Laws.Changed.{SameHead, same-head-swap, changed-head, changed-bytes}
-use Rattle.record.specs.Checks.{high-tolerance, sentence, IsAccepted, nothing, head-checks, fix-checks, read-refusal, head-refusal}
+use Rattle.record.specs.Checks.{high-tolerance, sentence, IsAccepted, nothing, read-refusal, head-refusal}
 use Rattle.record.specs.Moved.{moved-record, Movable}
-use Rattle.record.specs.Laws.First.{none-front, answer-same}
-use Rattle.record.specs.Laws.Head.{says}
+use Rattle.record.specs.Laws.First.{answer-same}
+use Rattle.record.specs.Laws.Head.{head-none}
 use Rattle.record.specs.Laws.Accepted.{accepted-good}
 use Rattle.record.specs.Laws.Changed.{head-same}
 use Rattle.record.specs.Laws.Moved.{Later, accepted-later, moved-fixes, moved-later, moved-earlier, later-refusal}
@@ -108,7 +108,7 @@ head-passes b q bytes h = go (read-refusal trail b) refl
   where
     go : (r : Option ℕ) → read-refusal trail b ≡ r → head-refusal trail (left-by b q) ≡ none
     go (some k) x = rw (left-refused b k q x) h
-    go none x = none-front (says (left-by b q)) head-checks fix-checks (left-accepted b q bytes (record { accepted = x }) .0 .accepted)
+    go none x = head-none (left-by b q) (left-accepted b q bytes (record { accepted = x }) .0 .accepted)
 
 -- marks of positions go with the fixes
 with-positions : (s : ℤ) (b : List ℕ) (q : Call) → AreBytes b → Movable trail s b → answered (moved-record trail s b) q ≡ answered b q → SameHead (left-by b q) (left-by (moved-record trail s b) q)

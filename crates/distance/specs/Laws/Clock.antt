@@ -9,7 +9,7 @@ use lib.Signed.{_≤ℤ_, leZ, leZ-yes}
 use Rattle.distance.specs.Fix.{Fix}
 use Rattle.distance.specs.Distance.{seconds, N, squared, deviation, allowance}
 use Rattle.distance.specs.Place.{Time, Place, own, interpolated, leg, place-from, place}
-use Rattle.distance.specs.Clock.{latest-second, moved, Stays, moved-fix}
+use Rattle.distance.specs.Clock.{clock-limit, moved, Stays, moved-fix}
 use Rattle.distance.specs.Laws.All.{All, all-none, all-more}
 use Rattle.distance.specs.Integers.Differences.{diffs}
 use Rattle.distance.specs.Integers.Order.{pos-le}
@@ -25,10 +25,10 @@ pub moved-is : (s : ℤ) (t : ℕ) → Stays s t → pos (moved s t) ≡ pos t +
 moved-is s t h = not-negative (pos t +ℤ s) (h .from-zero)
 
 pub moved-fits : (s : ℤ) (t : ℕ) → Stays s t → moved s t < 4294967296
-moved-fits s t h = let k : pos (moved s t) ≤ℤ pos latest-second = rw (moved-is s t h) (h .in-32-bits) in omega (arith, pos-le (moved s t) latest-second .0 k)
+moved-fits s t h = let k : pos (moved s t) ≤ℤ pos clock-limit = rw (moved-is s t h) (h .in-32-bits) in omega (arith, pos-le (moved s t) clock-limit .0 k)
 
 -- of numbers that are written out it is found by computing
-pub computed-stays : (s : ℤ) (t : ℕ) → T (leZ (pos 0) (pos t +ℤ s)) → T (leZ (pos t +ℤ s) (pos latest-second)) → Stays s t
+pub computed-stays : (s : ℤ) (t : ℕ) → T (leZ (pos 0) (pos t +ℤ s)) → T (leZ (pos t +ℤ s) (pos clock-limit)) → Stays s t
 computed-stays s t h k = record { from-zero = leZ-yes h; in-32-bits = leZ-yes k }
 
 -- earlier and then as much later it is the same again, and the other way round

@@ -17,8 +17,8 @@ use Rattle.distance.specs.Integers.Differences.{diffs}
 use Rattle.distance.specs.Integers.Order.{ltZ-false, le-of-ltZ}
 use Rattle.format.specs.Format.{trail, fix-at, record-bytes, length-field, mark-field, count-field, fixes}
 use Rattle.record.specs.Checks.{Asked, read-refusal, few-bytes, other-kind, bad-count, bad-length, short-record, bad-mark, sentence, first, head-checks, fix-checks, asked-of, nothing, IsAccepted, outside, fix-outside, some-outside, some-early-after, some-early, of-ends, too-long}
-use Rattle.record.specs.Laws.First.{passes, NoneHolds, no-check, and-not, none-holds, none-first, none-front, first-none}
-use Rattle.record.specs.Laws.Head.{Head, says, neither, accepted-head, not-few, not-other, count-good, length-same, not-short, mark-low, mark-never, mark-says, from-2, from-3, from-4, from-5, from-6}
+use Rattle.record.specs.Laws.First.{passes, NoneHolds, no-check, and-not, none-holds, none-first, first-none}
+use Rattle.record.specs.Laws.Head.{Head, says, neither, accepted-head, not-few, not-other, count-good, length-same, not-short, mark-low, mark-never, mark-says, from-2, from-3, from-4, from-5, from-6, head-none}
 use Rattle.format.specs.Laws.Numbers.{false-true}
 use Rattle.format.specs.Laws.RoundTrip.{Reads, AreBytes, number-below, rewrites}
 use Rattle.record.specs.Reading.{yields, moves, begins, past-every-fix, told-refusal}
@@ -66,7 +66,7 @@ pub record Good (b : List ℕ) : Type 0 where
 
 pub accepted-good : (b : List ℕ) → IsAccepted trail b → Good b
 accepted-good b h =
-    let none-head = none-front (says b) head-checks fix-checks (h .accepted) in
+    let none-head = head-none b (h .accepted) in
     record {
       head = accepted-head b (h .accepted);
       mark = mark-of (none-holds (says b) head-checks none-head);

@@ -143,5 +143,8 @@ head-passed b h = go (none-holds (says b) head-checks h)
         }
 
 -- an accepted record has a good head, and nothing is wrong with its fixes
+pub head-none : (b : List ℕ) → read-refusal trail b ≡ none → head-refusal trail b ≡ none
+head-none b h = none-front (says b) head-checks fix-checks h
+
 pub accepted-head : (b : List ℕ) → read-refusal trail b ≡ none → Head b
-accepted-head b h = head-passed b (none-front (says b) head-checks fix-checks h)
+accepted-head b h = head-passed b (head-none b h)

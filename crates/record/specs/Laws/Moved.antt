@@ -16,8 +16,7 @@ use Rattle.format.specs.Laws.RoundTrip.{AreBytes, InRange, bytes-in-range}
 use Rattle.format.specs.Laws.Changed.{SameHead, same-head-swap, changed-head, changed-bytes, changed-in-range}
 use Rattle.record.specs.Checks.{Check, Given, misplaced, unordered, long-span, sentence, first, nothing, head-checks, fix-checks, head-refusal, too-long, IsAccepted}
 use Rattle.record.specs.Moved.{moved-record, Movable}
-use Rattle.record.specs.Laws.First.{none-front}
-use Rattle.record.specs.Laws.Head.{asks, says, head-passed}
+use Rattle.record.specs.Laws.Head.{asks, head-none, head-passed}
 use Rattle.record.specs.Laws.Changed.{head-same, changed-refusal, outside-changed, early-changed, ends-changed}
 
 -- ---- the fixes of a moved record
@@ -34,7 +33,7 @@ pub record Later (k : ℕ) (b c : List ℕ) : Type 0 where
   pub later-fixes : head-refusal trail b ≡ none → fixes trail c ≡ map (moved-fix (pos k)) (fixes trail b)
 
 pub accepted-later : {k : ℕ} {b c : List ℕ} → Later k b c → IsAccepted trail b → fixes trail c ≡ map (moved-fix (pos k)) (fixes trail b)
-accepted-later {k} {b} l a = l .later-fixes (none-front (says b) head-checks fix-checks (a .accepted))
+accepted-later {k} {b} l a = l .later-fixes (head-none b (a .accepted))
 
 -- a record that is moved to a later time
 pub moved-later : (k : ℕ) (b : List ℕ) → AreBytes b → Movable trail (pos k) b → Later k b (moved-record trail (pos k) b)

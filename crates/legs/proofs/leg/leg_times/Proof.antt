@@ -11,8 +11,8 @@ use Rattle.legs.proofs.leg.leg_times.Tie as tie
 ends : (s : tie.Start) → Fits w16 (s .args .b .t .0)
 ends s = search needs
 
-clock : (c : tie.After-elapsed) → LegFits (c .before .before .args .a .t .0) (c .elapsed .result .0)
-clock c = let e = ends (c .before .before) in record { fits = omega (arith, e .fits, c .elapsed .ensures, c .before .before .pre) }
+leg-fits : (c : tie.After-elapsed) → LegFits (c .before .before .args .a .t .0) (c .elapsed .result .0)
+leg-fits c = let e = ends (c .before .before) in record { fits = omega (arith, e .fits, c .elapsed .ensures, c .before .before .pre) }
 
 elapsed-requires : tie.Need-elapsed-requires
 elapsed-requires c κs = search needs
@@ -27,13 +27,13 @@ times-requires : tie.Need-times-requires
 times-requires c κs = search needs
 
 axis-requires : tie.Need-axis-requires
-axis-requires c κs = clock (c .before .before .before)
+axis-requires c κs = leg-fits (c .before .before .before)
 
 axis-requires-2 : tie.Need-axis-requires-2
-axis-requires-2 c κs = clock (c .before .before .before .before)
+axis-requires-2 c κs = leg-fits (c .before .before .before .before)
 
 whole-requires : tie.Need-whole-requires
-whole-requires c κs = clock (c .before .before .before .before .before)
+whole-requires c κs = leg-fits (c .before .before .before .before .before)
 
 both-requires : tie.Need-both-requires
 both-requires c κs = search needs
