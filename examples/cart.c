@@ -1,4 +1,5 @@
-/* One cart's trail from C: written, listed, aged over some days, and asked about.
+/* One cart's trail from C: written, listed, aged over some days, and asked about; and
+ * the same in millimetres.
  *
  *   rt staticlib export
  *   cc -I include examples/cart.c target/staticlib/libexport.a -o cart && ./cart
@@ -11,10 +12,15 @@ enum { FIXES = 6 };
 
 /* A cart that goes 200 cm along a belt, waits, and goes on across the hall. */
 static const uint32_t times[FIXES] = {1000, 1010, 1020, 1050, 1060, 1080};
-static const int16_t xs[FIXES] = {0, 100, 200, 200, 195, 185};
-static const int16_t ys[FIXES] = {0, 0, 3, 3, 120, 360};
+static const int32_t xs[FIXES] = {0, 100, 200, 200, 195, 185};
+static const int32_t ys[FIXES] = {0, 0, 3, 3, 120, 360};
 
-static uint8_t record[10 + 8 * FIXES];
+/* The same cart, seen in millimetres. */
+static const int32_t fine_xs[FIXES] = {0, 1004, 1998, 2001, 1952, 1847};
+static const int32_t fine_ys[FIXES] = {0, 2, 29, 31, 1203, 3598};
+
+/* a fix has 8 bytes in centimetres, and 12 in millimetres */
+static uint8_t record[10 + 12 * FIXES];
 static uint8_t text[TRAILS_TEXT];
 
 /* Prints the record as text for people. */
@@ -43,7 +49,7 @@ static void run(const uint32_t *calls, size_t count) {
 /* Reads all fixes, and prints the longest leg, the first of equals. */
 static void longest(void) {
     uint32_t t[FIXES];
-    int16_t x[FIXES], y[FIXES];
+    int32_t x[FIXES], y[FIXES];
     struct trails_answer read =
         trails_read_all(record, sizeof record, t, FIXES, x, FIXES, y, FIXES);
     uint32_t end = 1;
@@ -55,17 +61,21 @@ static void longest(void) {
         if (t[k] - t[k - 1] > t[end] - t[end - 1])
             end = k;
     printf("longest of %u legs: %u s, from %d, %d to %d, %d\n", (unsigned)read.value - 1,
-           (unsigned)(t[end] - t[end - 1]), x[end - 1], y[end - 1], x[end], y[end]);
+           (unsigned)(t[end] - t[end - 1]), (int)x[end - 1], (int)y[end - 1], (int)x[end],
+           (int)y[end]);
 }
 
+/* Prints where the cart was, in the unit that the record's kind says. */
 static void where(uint32_t second, uint16_t thousandths) {
+    struct trails_head head = trails_check(record, sizeof record);
+    const char *unit = head.kind == TRAILS_MILLIMETRES ? "mm" : "cm";
     struct trails_place p = trails_place(record, sizeof record, second, thousandths);
     if (p.refusal != TRAILS_ACCEPTED)
         printf("at %u.%03u: refused %u\n", (unsigned)second, thousandths, (unsigned)p.refusal);
     else
-        printf("at %u.%03u: %lld/%u, %lld/%u, so about %d, %d\n", (unsigned)second, thousandths,
-               (long long)p.x, (unsigned)p.denominator, (long long)p.y, (unsigned)p.denominator,
-               (int)p.whole_x, (int)p.whole_y);
+        printf("at %u.%03u: %lld/%u, %lld/%u, so about %d, %d %s\n", (unsigned)second,
+               thousandths, (long long)p.x, (unsigned)p.denominator, (long long)p.y,
+               (unsigned)p.denominator, (int)p.whole_x, (int)p.whole_y, unit);
 }
 
 /* Whether the cart was on the packing area, 150 to 250 by 100 to 200, in a window. */
@@ -75,10 +85,25 @@ static void packed(uint32_t start, uint32_t end) {
     if (c.refusal != TRAILS_ACCEPTED)
         printf("from %u to %u: refused %u\n", (unsigned)start, (unsigned)end, (unsigned)c.refusal);
     else if (c.crosses)
-        printf("from %u to %u: packed, first %u/%u s after the first fix\n", (unsigned)start,
-               (unsigned)end, (unsigned)c.numerator, (unsigned)c.denominator);
+        printf("from %u to %u: packed, first %llu/%u s after the first fix\n", (unsigned)start,
+               (unsigned)end, (unsigned long long)c.numerator, (unsigned)c.denominator);
     else
         printf("from %u to %u: not packed\n", (unsigned)start, (unsigned)end);
+}
+
+/* The same trail in millimetres: every length that goes in or comes out is in these. */
+static void in_millimetres(void) {
+    struct trails_answer written = trails_write_millimetres(
+        times, FIXES, fine_xs, FIXES, fine_ys, FIXES, record, sizeof record);
+    if (written.refusal != TRAILS_ACCEPTED) {
+        printf("refused %u\n", (unsigned)written.refusal);
+        return;
+    }
+    where(1015, 500);
+    aged("tolerance 50", trails_age(record, sizeof record, 50));
+    /* above what centimetres may have, and still a tolerance */
+    aged("tolerance 40000", trails_age(record, sizeof record, 40000));
+    list();
 }
 
 int main(void) {
@@ -107,5 +132,7 @@ int main(void) {
     longest();
     where(1015, 500);
     packed(1000, 1080);
+
+    in_millimetres();
     return 0;
 }

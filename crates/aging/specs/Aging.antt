@@ -2,11 +2,12 @@
 use mathlib.Core.Bool.{cond}
 use mathlib.Core.List.{List, [], _∷_, _++_}
 use mathlib.Core.Option.{Option, some, none}
-use Prim.Native.Nat.{ℕ, max}
+use Prim.Native.Nat.{ℕ, _*_, min, max}
 use lib.Dec.{leb, eqb}
 use lib.ListN.{length, drop}
-use Rattle.format.specs.Format.{trail, never, mark-field, record-length, fixes, record-bytes}
-use Rattle.record.specs.Checks.{Given, nothing, asked-of, refusal, aging, aging-by-days}
+use Rattle.format.specs.Kinds.{Kind}
+use Rattle.format.specs.Format.{never, mark-field, kind-of, record-length, fixes, record-bytes}
+use Rattle.record.specs.Checks.{Given, nothing, refusal-of, aging, aging-by-days}
 use Rattle.record.specs.Answers.{Answer, answer, unless}
 use Rattle.thinning.specs.Thinning.{thinning, thinned}
 
@@ -17,8 +18,8 @@ new-mark mark e = cond (eqb mark never) e (max mark e)
 -- "The record's fixes are thinned at e; kept fixes close up at its start; length and count follow [..]. Bytes from the new length on are as before."
 unfoldable pub thinned-record : List ℕ → (e : ℕ) → List ℕ
 thinned-record b e =
-    let kept = thinned e (fixes trail b) in
-    record-bytes trail (new-mark (mark-field b) e) kept ++ drop (record-length trail (length kept)) b
+    let kept = thinned e (fixes b) in
+    record-bytes (kind-of b) (new-mark (mark-field b) e) kept ++ drop (record-length (kind-of b) (length kept)) b
 
 -- ---- by tolerance: "Aging makes checks 1 to 10". What the call does not take decides nothing (`aging-alone` of the record's Laws/First.antt).
 abbrev pub with-tolerance : ℕ → Given
@@ -33,16 +34,16 @@ with-tolerance e = record {
 }
 
 abbrev pub age-refusal : List ℕ → (e : ℕ) → Option ℕ
-age-refusal b e = refusal trail aging (asked-of trail b (with-tolerance e))
+age-refusal b e = refusal-of aging b (with-tolerance e)
 
 -- "The answer carries a count"; and the buffer afterwards.
 abbrev pub age-answer : List ℕ → (e : ℕ) → Answer ℕ
-age-answer b e = answer (age-refusal b e) ((thinning e (fixes trail b)) .count)
+age-answer b e = answer (age-refusal b e) ((thinning e (fixes b)) .count)
 
 abbrev pub aged : List ℕ → (e : ℕ) → List ℕ
 aged b e = unless (age-refusal b e) b (thinned-record b e)
 
--- ---- by days: "from day 2, 10; from day 7, 25; from day 30, 100; from day 90, 400."
+-- ---- by days: "from day 2, 10; from day 7, 25; from day 30, 100; from day 90, 400.", in centimetres
 pub record Row : Type 0 where
   pub day : ℕ
   pub row-tolerance : ℕ
@@ -64,24 +65,32 @@ last-row so-far (r ∷ rows) days = last-row (cond (leb (r .day) days) (some (r 
 abbrev pub days-give : ℕ → Option ℕ
 days-give days = last-row none day-table days
 
+-- Document 02, item 8: "For kind 2 aging by days takes the lesser of 60,000 and ten times the row". Kind 1 takes the row, which is below its limit.
+abbrev pub in-unit : Kind → Option ℕ → Option ℕ
+in-unit K none = none
+in-unit K (some row) = some (min (K .top) (K .per-centimetre * row))
+
+abbrev pub days-apply : Kind → ℕ → Option ℕ
+days-apply K days = in-unit K (days-give days)
+
 -- "aging by days 1 to 9"
 abbrev pub days-refusal : List ℕ → Option ℕ
-days-refusal b = refusal trail aging-by-days (asked-of trail b nothing)
+days-refusal b = refusal-of aging-by-days b nothing
 
 -- "the record is unchanged, the count 0", or as aging at that tolerance does.
 abbrev pub count-at : Option ℕ → List ℕ → ℕ
 count-at none b = 0
-count-at (some e) b = (thinning e (fixes trail b)) .count
+count-at (some e) b = (thinning e (fixes b)) .count
 
 abbrev pub record-at : Option ℕ → List ℕ → List ℕ
 record-at none b = b
 record-at (some e) b = thinned-record b e
 
 abbrev pub days-answer : List ℕ → (days : ℕ) → Answer ℕ
-days-answer b days = answer (days-refusal b) (count-at (days-give days) b)
+days-answer b days = answer (days-refusal b) (count-at (days-apply (kind-of b) days) b)
 
 abbrev pub aged-by-days : List ℕ → (days : ℕ) → List ℕ
-aged-by-days b days = unless (days-refusal b) b (record-at (days-give days) b)
+aged-by-days b days = unless (days-refusal b) b (record-at (days-apply (kind-of b) days) b)
 
 -- ---- a call of either, with its arguments: what it leaves of a buffer, and what it answers
 pub data Call : Type 0 where
@@ -96,8 +105,8 @@ abbrev pub answered : List ℕ → Call → Answer ℕ
 answered b (by-tolerance e) = age-answer b e
 answered b (by-days days) = days-answer b days
 
--- The tolerance that a call applies to an accepted record: none if check 10 turns it away, or if its days give none (`turned-away` of Laws/Step.antt
+-- The tolerance that a call applies to an accepted record of a kind, in its unit: none if check 10 turns it away, or if its days give none (`turned-away` of Laws/Step.antt
 -- and the laws below it).
-unfoldable pub applies : Call → Option ℕ
-applies (by-tolerance e) = cond (leb e (trail .top)) (some e) none
-applies (by-days days) = days-give days
+unfoldable pub applies : Kind → Call → Option ℕ
+applies K (by-tolerance e) = cond (leb e (K .top)) (some e) none
+applies K (by-days days) = days-apply K days

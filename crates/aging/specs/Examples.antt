@@ -1,10 +1,11 @@
--- THE AGINGS IN NUMBERS. Days and bytes, written out, and what document 01 says of them: the definitions and the code cannot be changed together without
+-- THE AGINGS IN NUMBERS. Days and bytes, written out, and what document 01 and document 02's item 8 say of them: the definitions and the code cannot be changed together without
 -- these rows. Each line is computed.
 use mathlib.Core.Path.{_≡_, refl}
 use mathlib.Core.Bool.{Bool, true, false}
 use mathlib.Core.List.{List, [], _∷_, _++_}
 use mathlib.Core.Option.{Option, some, none}
 use Prim.Native.Nat.{ℕ}
+use native.Mathlib.Omega.{arith}
 use lib.IntN.{pos}
 use Rattle.distance.specs.Examples.{Computes}
 use Rattle.distance.specs.Fix.{last-of}
@@ -12,17 +13,22 @@ use Rattle.distance.specs.Laws.All.{All, all-none, all-more, all-always}
 use Rattle.distance.specs.Laws.Clock.{computed-stays}
 use Rattle.distance.specs.Distance.{deviation, allowance}
 use Rattle.format.specs.Bytes.{number-at, bytes-of, signed, unsigned}
-use Rattle.format.specs.Format.{trail, fixes, fix-at, each, fix-bytes, all-bytes, header-bytes, record-bytes}
+use Rattle.format.specs.Kinds.{Kind, trail, millimetre-trail}
+use Rattle.format.specs.Format.{kind-of, fixes, fix-from, fix-at, each, fix-to, fix-bytes, all-bytes, header-bytes, record-bytes}
 use Rattle.format.specs.Examples.{document-bytes}
 use Rattle.format.specs.Laws.RoundTrip.{all-below, computed-bytes}
 use Rattle.record.specs.Checks.{sentence, first, some-outside, some-early-after, some-early, of-ends}
 use Rattle.record.specs.Answers.{Answer, gives, turns-away}
 use Rattle.record.specs.Examples.{read-rows, on-refused, MovableRow, movable-rows}
 use Rattle.record.specs.Moved.{moved-record}
+use Rattle.record.specs.Tenfold.{tenfold-record, Tenfold}
+use Rattle.record.specs.Laws.Tenfold.{tenfold-never, tenfold-bytes}
 use Rattle.thinning.specs.Marks.{kept-by}
 use Rattle.thinning.specs.Thinning.{sooner, furthest, every, but-last, thin-span, thin, thinning}
-use Rattle.aging.specs.Aging.{new-mark, thinned-record, last-row, days-give, Call, by-tolerance, by-days, left-by, answered}
+use Rattle.aging.specs.Aging.{new-mark, thinned-record, last-row, days-give, in-unit, Call, by-tolerance, by-days, left-by, answered}
+use Rattle.aging.specs.Tenfold.{TenfoldCall, at-ten-times, by-same-days, both-too-high}
 use Rattle.aging.specs.Laws.Moved.{AgedAlike, aged-moved}
+use Rattle.aging.specs.Laws.Tenfold.{AgedTenfold, aged-tenfold}
 
 -- ---- the table: "from day 2, 10; from day 7, 25; from day 30, 100; from day 90, 400. Days 0 and 1 apply no tolerance"
 abbrev pub day-rows : List (ℕ × Option ℕ)
@@ -73,11 +79,34 @@ call-rows =
     ∷ []
 
 pub calls-computed : Computes (λ (p : List ℕ × Call). (answered (p .0) (p .1), left-by (p .0) (p .1))) call-rows
-unfolding thinned-record new-mark last-row thinning thin thin-span furthest sooner every but-last last-of deviation allowance first sentence some-outside some-early-after some-early of-ends fix-at each number-at signed unsigned bytes-of fix-bytes all-bytes header-bytes record-bytes
+unfolding thinned-record new-mark last-row thinning thin thin-span furthest sooner every but-last last-of deviation allowance first sentence some-outside some-early-after some-early of-ends kind-of fix-from fix-at each number-at signed unsigned bytes-of fix-to fix-bytes all-bytes header-bytes record-bytes
 calls-computed = refl
 
+-- ---- kind 2, by its own limits, in millimetres: one fix, under a mark of these two bytes
+abbrev pub millimetre-marked : (low high : ℕ) → List ℕ
+millimetre-marked low high = 22 ∷ 0 ∷ 0 ∷ 0 ∷ 2 ∷ 0 ∷ low ∷ high ∷ 1 ∷ 0 ∷ 232 ∷ 3 ∷ 0 ∷ 0 ∷ 255 ∷ 255 ∷ 255 ∷ 255 ∷ 2 ∷ 0 ∷ 0 ∷ 0 ∷ []
+
+-- "tolerance and mark up to 60,000": 60,000 passes and 60,001 is 10; "ten times the row": day 2 marks it 100, day 90 and every later one 4,000
+abbrev pub millimetre-call-rows : List CallRow
+millimetre-call-rows =
+    ((millimetre-marked 255 255, by-tolerance 60000), (gives 0, millimetre-marked 96 234))
+    ∷ refuses (by-tolerance 60001) (millimetre-marked 255 255) 10
+    ∷ ((millimetre-marked 255 255, by-tolerance 32001), (gives 0, millimetre-marked 1 125))
+    ∷ ((millimetre-marked 255 255, by-days 1), (gives 0, millimetre-marked 255 255))
+    ∷ ((millimetre-marked 255 255, by-days 2), (gives 0, millimetre-marked 100 0))
+    ∷ ((millimetre-marked 255 255, by-days 65535), (gives 0, millimetre-marked 160 15))
+    ∷ []
+
+pub millimetre-calls-computed : Computes (λ (p : List ℕ × Call). (answered (p .0) (p .1), left-by (p .0) (p .1))) millimetre-call-rows
+unfolding thinned-record new-mark last-row thinning thin thin-span furthest sooner every but-last last-of deviation allowance first sentence some-outside some-early-after some-early of-ends kind-of fix-from fix-at each number-at signed unsigned bytes-of fix-to fix-bytes all-bytes header-bytes record-bytes
+millimetre-calls-computed = refl
+
+-- "the lesser of 60,000 and ten times the row": the built-in rows are below it, and a row of 6,001 centimetres is not
+pub units-computed : Computes (λ (p : Kind × ℕ). in-unit (p .0) (some (p .1))) (((trail, 400), some 400) ∷ ((millimetre-trail, 400), some 4000) ∷ ((millimetre-trail, 6000), some 60000) ∷ ((millimetre-trail, 6001), some 60000) ∷ ((millimetre-trail, 32000), some 60000) ∷ [])
+units-computed = refl
+
 -- ---- the law of a moved clock, of bytes that are accepted and of refused ones
-pub movable-aged : All (λ (m : MovableRow). AgedAlike (m .by) (m .buffer) (moved-record trail (m .by) (m .buffer)) (by-days 7)) movable-rows
+pub movable-aged : All (λ (m : MovableRow). AgedAlike (m .by) (m .buffer) (moved-record (m .by) (m .buffer)) (by-days 7)) movable-rows
 movable-aged = all-always (λ (m : MovableRow). aged-moved (m .by) (m .buffer) (m .bytes) (m .movable) (by-days 7)) movable-rows
 
 -- The trail of document 01's row b, a straight line of three fixes, at 0, 10 and 20 seconds.
@@ -93,18 +122,38 @@ straight =
 abbrev pub ends-marked : List Bool
 ends-marked = true ∷ false ∷ true ∷ []
 
-pub straight-kept : fixes trail (left-by straight (by-tolerance 0)) ≡ kept-by ends-marked 0 (fixes trail straight)
-unfolding kept-by thinned-record new-mark thinning thin thin-span furthest sooner every but-last last-of deviation allowance first sentence some-outside some-early-after some-early of-ends fix-at each number-at signed unsigned bytes-of fix-bytes all-bytes header-bytes record-bytes
+pub straight-kept : fixes (left-by straight (by-tolerance 0)) ≡ kept-by ends-marked 0 (fixes straight)
+unfolding kept-by thinned-record new-mark thinning thin thin-span furthest sooner every but-last last-of deviation allowance first sentence some-outside some-early-after some-early of-ends kind-of fix-from fix-at each number-at signed unsigned bytes-of fix-to fix-bytes all-bytes header-bytes record-bytes
 straight-kept = refl
 
 -- .. and the same positions of the trail moved to the last second of 32 bits.
-straight-alike : AgedAlike (pos 4294967275) straight (moved-record trail (pos 4294967275) straight) (by-tolerance 0)
-unfolding all-below fix-at each number-at
+straight-alike : AgedAlike (pos 4294967275) straight (moved-record (pos 4294967275) straight) (by-tolerance 0)
+unfolding kind-of all-below fix-from fix-at each number-at
 straight-alike =
     let stays = computed-stays (pos 4294967275) in
     aged-moved (pos 4294967275) straight (computed-bytes straight refl)
     (record { all-stay = (λ h. all-more (stays 0 tt tt) (all-more (stays 10 tt tt) (all-more (stays 20 tt tt) all-none))) }) (by-tolerance 0)
 
-pub straight-moved : fixes trail (left-by (moved-record trail (pos 4294967275) straight) (by-tolerance 0)) ≡ kept-by ends-marked 0 (fixes trail (moved-record trail (pos 4294967275) straight))
-unfolding first sentence number-at
+pub straight-moved : fixes (left-by (moved-record (pos 4294967275) straight) (by-tolerance 0)) ≡ kept-by ends-marked 0 (fixes (moved-record (pos 4294967275) straight))
+unfolding kind-of first sentence number-at
 straight-moved = straight-alike .same-positions refl ends-marked straight-kept
+
+-- ---- CENTIMETRES AND MILLIMETRES: the straight trail in both units, ..
+straight-tenfold : Tenfold straight (tenfold-record straight)
+unfolding kind-of all-below first sentence some-outside some-early-after some-early last-of of-ends fix-from fix-at each number-at signed
+straight-tenfold = tenfold-never straight (computed-bytes straight refl) (record { accepted = refl }) refl refl
+
+straight-aged : {q r : Call} → TenfoldCall q r → AgedTenfold straight (tenfold-record straight) q r
+unfolding all-below
+straight-aged = aged-tenfold straight (tenfold-record straight) (computed-bytes straight refl) (tenfold-bytes straight) straight-tenfold
+
+-- .. at the least tolerance and at the greatest that both units have, by days, and at the least that both turn away
+pub straight-in-millimetres : AgedTenfold straight (tenfold-record straight) (by-tolerance 0) (by-tolerance 0)
+    × AgedTenfold straight (tenfold-record straight) (by-tolerance 6000) (by-tolerance 60000)
+    × AgedTenfold straight (tenfold-record straight) (by-days 7) (by-days 7)
+    × AgedTenfold straight (tenfold-record straight) (by-tolerance 32001) (by-tolerance 60001)
+straight-in-millimetres = (straight-aged (at-ten-times {e = 0} (omega arith)), straight-aged (at-ten-times {e = 6000} (omega arith)), straight-aged by-same-days, straight-aged (both-too-high (omega arith) (omega arith)))
+
+-- the same positions
+pub straight-kept-in-millimetres : fixes (left-by (tenfold-record straight) (by-tolerance 0)) ≡ kept-by ends-marked 0 (fixes (tenfold-record straight))
+straight-kept-in-millimetres = straight-aged (at-ten-times {e = 0} (omega arith)) .same-positions ends-marked straight-kept

@@ -3,3 +3,4 @@ pub mod Pack
 pub mod Aging
 pub mod Step
 pub mod Moved
+pub mod Tenfold

@@ -1,28 +1,29 @@
 // The thinning layer: the agings, which thin a record in place, by tolerance and by days.
 use distance::Tolerance;
+use format::Kind;
 use record::Checked;
 ghost use mathlib.Core.Path.{_≡_};
-ghost use Prim.Native.Nat.{_+_, _*_, _-_, _<_, _≤_};
+ghost use Prim.Native.Nat.{_<_, _≤_};
 ghost use lib.ListN.{length};
-ghost use Rattle.format.specs.Format.{trail, fixes};
+ghost use Rattle.format.specs.Kinds.{layout};
+ghost use Rattle.format.specs.Format.{record-length, fixes};
 ghost use Rattle.record.specs.Checks.{IsAccepted};
-ghost use Rattle.aging.specs.Aging.{new-mark, thinned-record, age-refusal, age-answer, aged, days-give, days-answer, aged-by-days, count-at, record-at};
+ghost use Rattle.aging.specs.Aging.{new-mark, thinned-record, age-refusal, age-answer, aged, days-give, in-unit, days-answer, aged-by-days, count-at, record-at};
 ghost use Rattle.aging.specs.Answers.{counted, applied};
 ghost use Rattle.record.specs.Answers.{refused};
 ghost use Rattle.thinning.specs.Thinning.{thinning};
 ghost use Rattle.aging.specs.Laws.Pack.{Packed};
 
 // Closes up the marked fixes of the first n, and says how many they are. Each is read before anything is stored over it.
-fn pack(b: &mut [u8], keep: &[bool], n: usize) -> usize
-    requires { ⌜ (n ≤ 4096) × (n ≤ length (now keep)) × (10 + 8 * n ≤ length (now b)) ⌝ }
-    ensures { λ r. ⌜ Packed (now (b .entry)) (now (keep .entry)) n (now (b .exit)) r ⌝ }
+fn pack(b: &mut [u8], kind: Kind, keep: &[bool], n: usize) -> usize
+    requires { ⌜ (n ≤ 4096) × (n ≤ length (now keep)) × (record-length (layout kind) n ≤ length (now b)) ⌝ }
+    ensures { λ r. ⌜ Packed (layout kind) (now (b .entry)) (now (keep .entry)) n (now (b .exit)) r ⌝ }
 {
     let mut w = 0;
     let mut i = 0;
     while i < n {
         if keep[i] {
-            let f = format::fix_at(b, i);
-            format::put_fix(b, 10 + 8 * w, f);
+            format::move_fix(b, kind, i, w);
             w += 1;
         }
         i += 1;
@@ -44,15 +45,16 @@ fn new_mark(mark: u32, e: Tolerance) -> u32
 
 // Thins an accepted record at e, in place, and counts. The keep marks are made anew for each thinning and lent on through the recursion.
 fn thin(b: &mut [u8], e: Tolerance) -> u32
-    requires { ⌜ IsAccepted trail (now b) ⌝ }
-    ensures { λ r. ⌜ (r ≡ (thinning (e .0) (fixes trail (now (b .entry)))) .count) × (now (b .exit) ≡ thinned-record (now (b .entry)) (e .0)) ⌝ }
+    requires { ⌜ IsAccepted (now b) ⌝ }
+    ensures { λ r. ⌜ (r ≡ (thinning (e .0) (fixes (now (b .entry)))) .count) × (now (b .exit) ≡ thinned-record (now (b .entry)) (e .0)) ⌝ }
 {
+    let kind = format::kind_at(b);
     let n = format::count_at(b);
     let mark = new_mark(format::mark_at(b), e);
     let mut keep = [false; 4096];
-    let count = thinning::mark_kept(b, &mut keep, n, e);
-    let kept = pack(b, &keep, n);
-    format::put_head(b, kept as u32, mark);
+    let count = thinning::mark_kept(b, &mut keep, n, kind, e);
+    let kept = pack(b, kind, &keep, n);
+    format::put_head(b, kind, kept as u32, mark);
     count
 }
 
@@ -70,7 +72,7 @@ fn age_says(b: &[u8], e: Tolerance) -> Checked
     match v {
         Checked::Refused(k) => Checked::Refused(k),
         Checked::Accepted => {
-            if 32000 < e.0 {
+            if format::top_of(format::kind_at(b)) < e.0 as u32 {
                 Checked::Refused(10)
             } else {
                 Checked::Accepted
@@ -99,7 +101,7 @@ pub enum Applied {
     At(Tolerance),
 }
 
-// The built-in table.
+// The built-in table, in centimetres.
 fn tolerance_for(days: Days) -> Applied
     ensures { λ r. ⌜ applied r ≡ days-give (days .0) ⌝ }
 {
@@ -119,9 +121,27 @@ fn tolerance_for(days: Days) -> Applied
     Applied::NoTolerance
 }
 
+// A tolerance of the table in a kind's unit, and no higher than the kind's tolerances go.
+fn in_unit(kind: Kind, t: Applied) -> Applied
+    ensures { λ r. ⌜ applied r ≡ in-unit (layout kind) (applied t) ⌝ }
+{
+    match t {
+        Applied::NoTolerance => Applied::NoTolerance,
+        Applied::At(e) => {
+            let wide = format::per_centimetre(kind) * (e.0 as u32);
+            let top = format::top_of(kind);
+            if wide < top {
+                Applied::At(Tolerance(wide as u16))
+            } else {
+                Applied::At(Tolerance(top as u16))
+            }
+        },
+    }
+}
+
 // Thins an accepted record at the tolerance that applies, or leaves it.
 fn thin_if(b: &mut [u8], t: Applied) -> u32
-    requires { ⌜ IsAccepted trail (now b) ⌝ }
+    requires { ⌜ IsAccepted (now b) ⌝ }
     ensures { λ r. ⌜ (r ≡ count-at (applied t) (now (b .entry))) × (now (b .exit) ≡ record-at (applied t) (now (b .entry))) ⌝ }
 {
     match t {
@@ -137,6 +157,9 @@ pub fn age_by_days(b: &mut [u8], days: Days) -> Aged
     let v = record::check(b);
     match v {
         Checked::Refused(k) => Aged::Refused(k),
-        Checked::Accepted => Aged::Count(thin_if(b, tolerance_for(days))),
+        Checked::Accepted => {
+            let t = in_unit(format::kind_at(b), tolerance_for(days));
+            Aged::Count(thin_if(b, t))
+        },
     }
 }

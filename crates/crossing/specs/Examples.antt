@@ -1,4 +1,4 @@
--- THE CROSSING IN NUMBERS. Bytes, windows and boxes, written out, and what document 01 and document 02's item 4 say of them: the definitions and the code cannot be
+-- THE CROSSING IN NUMBERS. Bytes, windows and boxes, written out, and what document 01 and document 02's items 4 and 8 say of them: the definitions and the code cannot be
 -- changed together without these rows. Each line is computed.
 use mathlib.Core.Path.{_≡_, refl}
 use mathlib.Core.List.{List, [], _∷_}
@@ -8,18 +8,24 @@ use lib.IntN.{ℤ, pos}
 use Rattle.distance.specs.Examples.{Computes, minus}
 use Rattle.distance.specs.Fix.{last-of}
 use Rattle.distance.specs.Clock.{moved}
+use Rattle.distance.specs.Tenfold.{tenfold-box}
 use Rattle.distance.specs.Laws.All.{All, all-always}
 use Rattle.distance.specs.Box.{Box, box-with}
 use Rattle.format.specs.Bytes.{number-at, bytes-of, signed, unsigned}
-use Rattle.format.specs.Format.{trail, fix-at, each, fix-bytes, all-bytes, changed}
+use Rattle.format.specs.Kinds.{millimetre-trail}
+use Rattle.format.specs.Format.{kind-of, fix-at, fix-from, each, fix-to, fix-bytes, all-bytes, header-bytes, record-bytes, changed}
+use Rattle.format.specs.Laws.RoundTrip.{all-below, computed-bytes}
 use Rattle.record.specs.Checks.{sentence, first, some-outside, some-early-after, some-early, of-ends}
-use Rattle.record.specs.Answers.{Answer, gives, turns-away}
+use Rattle.record.specs.Answers.{Answer, gives, turns-away, SameAnswer}
 use Rattle.record.specs.Moved.{moved-record}
+use Rattle.record.specs.Tenfold.{tenfold-mark, tenfold-record}
+use Rattle.record.specs.Laws.Tenfold.{tenfold-never}
 use Rattle.record.specs.Examples.{read-rows, on-refused, MovableRow, movable-rows}
 use Rattle.legs.specs.declared.Fraction.{Fraction}
 use Rattle.legs.specs.Legs.{fraction, later-of, earlier-of, first-of, axis-times, leg-times, leg-first}
-use Rattle.crossing.specs.Crossing.{first-from, first-crossing, cross-answer}
+use Rattle.crossing.specs.Crossing.{first-from, first-crossing, cross-answer, SameCrossing}
 use Rattle.crossing.specs.Laws.Moved.{cross-answer-moved}
+use Rattle.crossing.specs.Laws.Tenfold.{cross-answer-tenfold}
 
 -- The trail (1000,0,0) (1010,100,0).
 abbrev pub cross-trail : List ℕ
@@ -56,8 +62,8 @@ cross-rows =
     ∷ ((1005, 1004, box-with (pos 34) (pos 33) (pos 0) (pos 0)), turns-away 13)
     ∷ []
 
-pub crossings-computed : Computes (λ (q : ℕ × ℕ × Box). cross-answer trail cross-trail (q .0) (q .1) (q .2)) cross-rows
-unfolding first sentence some-outside some-early-after some-early last-of of-ends fix-at each number-at signed first-crossing first-from leg-first leg-times axis-times first-of later-of earlier-of
+pub crossings-computed : Computes (λ (q : ℕ × ℕ × Box). cross-answer cross-trail (q .0) (q .1) (q .2)) cross-rows
+unfolding first sentence some-outside some-early-after some-early last-of of-ends kind-of fix-at fix-from each number-at signed first-crossing first-from leg-first leg-times axis-times first-of later-of earlier-of
 crossings-computed = refl
 
 -- ---- THE FRACTION'S FORM, of the trail (1000,0,0) (1010,100,50) (1020,200,0)
@@ -83,9 +89,35 @@ form-rows =
     ∷ ((1000, 1020, box-with (pos 150) (pos 200) (pos 0) (pos 10)), yes-at 900 50)
     ∷ []
 
-pub forms-computed : Computes (λ (q : ℕ × ℕ × Box). cross-answer trail bent-trail (q .0) (q .1) (q .2)) form-rows
-unfolding first sentence some-outside some-early-after some-early last-of of-ends fix-at each number-at signed first-crossing first-from leg-first leg-times axis-times first-of later-of earlier-of
+pub forms-computed : Computes (λ (q : ℕ × ℕ × Box). cross-answer bent-trail (q .0) (q .1) (q .2)) form-rows
+unfolding first sentence some-outside some-early-after some-early last-of of-ends kind-of fix-at fix-from each number-at signed first-crossing first-from leg-first leg-times axis-times first-of later-of earlier-of
 forms-computed = refl
+
+-- ---- MILLIMETRES: the trails (1000,−160000,0) (1010,160000,0) and (0,−160000,0) (65535,160000,0) of kind 2
+abbrev pub across-trail : List ℕ
+across-trail = 34 ∷ 0 ∷ 0 ∷ 0 ∷ 2 ∷ 0 ∷ 255 ∷ 255 ∷ 2 ∷ 0 ∷ 232 ∷ 3 ∷ 0 ∷ 0 ∷ 0 ∷ 143 ∷ 253 ∷ 255 ∷ 0 ∷ 0 ∷ 0 ∷ 0 ∷ 242 ∷ 3 ∷ 0 ∷ 0 ∷ 0 ∷ 113 ∷ 2 ∷ 0 ∷ 0 ∷ 0 ∷ 0 ∷ 0 ∷ []
+
+abbrev pub longest-trail : List ℕ
+longest-trail = 34 ∷ 0 ∷ 0 ∷ 0 ∷ 2 ∷ 0 ∷ 255 ∷ 255 ∷ 2 ∷ 0 ∷ 0 ∷ 0 ∷ 0 ∷ 0 ∷ 0 ∷ 143 ∷ 253 ∷ 255 ∷ 0 ∷ 0 ∷ 0 ∷ 0 ∷ 255 ∷ 255 ∷ 0 ∷ 0 ∷ 0 ∷ 113 ∷ 2 ∷ 0 ∷ 0 ∷ 0 ∷ 0 ∷ 0 ∷ []
+
+abbrev pub millimetre-crossings : List ((ℕ × ℕ × Box) × Answer (Option Fraction))
+millimetre-crossings =
+    -- "a crossing fraction's denominator may reach 320,000"
+    ((1000, 1010, asked-box), yes-at 1600330 320000)
+    -- 14, by the limit of kind 2: edges past kind 1's are in it, each edge at the limit too, and one millimetre further is not
+    ∷ ((1000, 1010, box-with (pos 16001) (pos 16001) (pos 0) (pos 0)), yes-at 1760010 320000)
+    ∷ ((1000, 1010, box-with (minus 160000) (pos 160000) (minus 160000) (pos 160000)), yes-at 0 1)
+    ∷ ((1000, 1010, box-with (minus 160001) (pos 40) (minus 5) (pos 5)), turns-away 14)
+    ∷ ((1000, 1010, box-with (pos 33) (pos 160001) (minus 5) (pos 5)), turns-away 14)
+    ∷ ((1000, 1010, box-with (pos 33) (pos 40) (minus 160001) (pos 5)), turns-away 14)
+    ∷ ((1000, 1010, box-with (pos 33) (pos 40) (minus 5) (pos 160001)), turns-away 14)
+    ∷ []
+
+pub millimetre-crossings-computed : Computes (λ (q : ℕ × ℕ × Box). cross-answer across-trail (q .0) (q .1) (q .2)) millimetre-crossings
+    -- the greatest numerator
+    × (cross-answer longest-trail 0 65535 (box-with (pos 160000) (pos 160000) (pos 0) (pos 0)) ≡ yes-at 20971200000 320000)
+unfolding first sentence some-outside some-early-after some-early last-of of-ends kind-of fix-at fix-from each number-at signed first-crossing first-from leg-first leg-times axis-times first-of later-of earlier-of
+millimetre-crossings-computed = (refl, refl)
 
 -- ---- THE CLOCK MOVED: the first trail above with its last fix in the last second of 32 bits, and with its first fix in the second 1. Every row is as before, its
 -- window moved alike, down to the numerator and the denominator.
@@ -95,21 +127,39 @@ latest-trail = 26 ∷ 0 ∷ 0 ∷ 0 ∷ 1 ∷ 0 ∷ 255 ∷ 255 ∷ 2 ∷ 0 ∷ 
 abbrev pub early-trail : List ℕ
 early-trail = 26 ∷ 0 ∷ 0 ∷ 0 ∷ 1 ∷ 0 ∷ 255 ∷ 255 ∷ 2 ∷ 0 ∷ 1 ∷ 0 ∷ 0 ∷ 0 ∷ 0 ∷ 0 ∷ 0 ∷ 0 ∷ 11 ∷ 0 ∷ 0 ∷ 0 ∷ 100 ∷ 0 ∷ 0 ∷ 0 ∷ []
 
-pub moved-computed : Computes (λ (s : ℤ). moved-record trail s cross-trail) ((pos 4294966285, latest-trail) ∷ (minus 999, early-trail) ∷ [])
-unfolding changed fix-at each number-at signed unsigned bytes-of fix-bytes all-bytes
+pub moved-computed : Computes (λ (s : ℤ). moved-record s cross-trail) ((pos 4294966285, latest-trail) ∷ (minus 999, early-trail) ∷ [])
+unfolding changed kind-of fix-at fix-from each number-at signed unsigned bytes-of fix-bytes fix-to all-bytes
 moved-computed = refl
 
-pub crossings-moved : Computes (λ (q : ℕ × ℕ × Box). cross-answer trail latest-trail (moved (pos 4294966285) (q .0)) (moved (pos 4294966285) (q .1)) (q .2)) cross-rows
-    × Computes (λ (q : ℕ × ℕ × Box). cross-answer trail early-trail (moved (minus 999) (q .0)) (moved (minus 999) (q .1)) (q .2)) cross-rows
-unfolding first sentence some-outside some-early-after some-early last-of of-ends fix-at each number-at signed first-crossing first-from leg-first leg-times axis-times first-of later-of earlier-of
+pub crossings-moved : Computes (λ (q : ℕ × ℕ × Box). cross-answer latest-trail (moved (pos 4294966285) (q .0)) (moved (pos 4294966285) (q .1)) (q .2)) cross-rows
+    × Computes (λ (q : ℕ × ℕ × Box). cross-answer early-trail (moved (minus 999) (q .0)) (moved (minus 999) (q .1)) (q .2)) cross-rows
+unfolding first sentence some-outside some-early-after some-early last-of of-ends kind-of fix-at fix-from each number-at signed first-crossing first-from leg-first leg-times axis-times first-of later-of earlier-of
 crossings-moved = (refl, refl)
 
 -- the law of a moved clock, of bytes that are accepted and of refused ones
-pub movable-crossed : All (λ (m : MovableRow). cross-answer trail (moved-record trail (m .by) (m .buffer)) (moved (m .by) (m .asked)) (moved (m .by) (m .asked)) asked-box
-    ≡ cross-answer trail (m .buffer) (m .asked) (m .asked) asked-box) movable-rows
+pub movable-crossed : All (λ (m : MovableRow). cross-answer (moved-record (m .by) (m .buffer)) (moved (m .by) (m .asked)) (moved (m .by) (m .asked)) asked-box
+    ≡ cross-answer (m .buffer) (m .asked) (m .asked) asked-box) movable-rows
 movable-crossed = all-always (λ (m : MovableRow). cross-answer-moved (m .by) (m .buffer) (m .bytes) (m .movable) (m .asked) (m .asked) asked-box (m .asked-stays) (m .asked-stays)) movable-rows
 
+-- ---- CENTIMETRES AND MILLIMETRES: the first trail above in the other unit, and boxes in it. The times are the same by their value, and so is each refusal.
+pub tenfold-crossings : Computes (λ (q : ℕ × ℕ × Box). cross-answer (tenfold-record cross-trail) (q .0) (q .1) (tenfold-box (q .2)))
+    (((1000, 1010, asked-box), yes-at 3300 1000)
+    ∷ ((1004, 1004, asked-box), yes-at 4 1)
+    ∷ ((1005, 1010, asked-box), gives none)
+    ∷ ((1000, 1011, asked-box), turns-away 13)
+    ∷ ((1000, 1010, box-with (minus 16000) (pos 16000) (minus 16000) (pos 16000)), yes-at 0 1)
+    ∷ ((1000, 1010, box-with (pos 33) (pos 40) (minus 5) (pos 16001)), turns-away 14)
+    ∷ ((1000, 1010, box-with (pos 34) (pos 33) (pos 0) (pos 0)), turns-away 14)
+    ∷ [])
+unfolding tenfold-record tenfold-mark header-bytes record-bytes all-bytes fix-bytes fix-to bytes-of unsigned first sentence some-outside some-early-after some-early last-of of-ends kind-of fix-at fix-from each number-at signed first-crossing first-from leg-first leg-times axis-times first-of later-of earlier-of
+tenfold-crossings = refl
+
+-- the law of it, for every window and box
+pub crossed-in-millimetres : (s e : ℕ) (box : Box) → SameAnswer (SameCrossing millimetre-trail) (cross-answer (tenfold-record cross-trail) s e (tenfold-box box)) (cross-answer cross-trail s e box)
+unfolding kind-of all-below first sentence some-outside some-early-after some-early last-of of-ends fix-from fix-at each number-at signed
+crossed-in-millimetres s e box = cross-answer-tenfold (tenfold-never cross-trail (computed-bytes cross-trail refl) (record { accepted = refl }) refl refl) s e box
+
 -- What the reader refuses the crossing refuses, 1 to 9, and before 13.
-pub cross-refusals : Computes (λ (b : List ℕ). cross-answer trail b 1 0 asked-box) (on-refused (λ b k. (b, turns-away k)) read-rows)
-unfolding first sentence some-outside some-early-after some-early last-of of-ends fix-at each number-at signed
+pub cross-refusals : Computes (λ (b : List ℕ). cross-answer b 1 0 asked-box) (on-refused (λ b k. (b, turns-away k)) read-rows)
+unfolding first sentence some-outside some-early-after some-early last-of of-ends kind-of fix-at fix-from each number-at signed
 cross-refusals = refl

@@ -1,11 +1,16 @@
 // The distance layer: units, the fix, how far an inner fix of a span is from the chord of its two ends, and a place rounded.
+pub mod words;
+
+use crate::words::Words;
+use crate::words::sum_of_squares;
 ghost use mathlib.Core.Path.{_≡_};
-ghost use Prim.Native.Nat.{_+_, _*_, _≤_};
+ghost use Prim.Native.Nat.{_+_, _≤_};
 ghost use lib.IntN.{pos, natAbs, _-ℤ_};
 ghost use Rattle.distance.specs.Fix.{fixOf};
-ghost use Rattle.distance.specs.Distance.{N, deviation, allowance};
+ghost use Rattle.distance.specs.Distance.{N, Nx, Ny, deviation, allowance};
 ghost use Rattle.distance.specs.Rounding.{half-up, rounded};
-ghost use Rattle.distance.specs.Span.{Chord, Span, Roundable};
+ghost use Rattle.distance.specs.Span.{Chord, Between, Off, one-word, greatest-N, Roundable};
+ghost use Rattle.distance.specs.Words.{WordsOf};
 
 // A time on the fixes' own clock. Times and lengths have types of their own, so that neither can stand for the other.
 pub struct Seconds(pub u32);
@@ -14,16 +19,16 @@ pub struct Seconds(pub u32);
 // when a leg begins and when a window opens and closes. It is neither a time on the clock nor a length.
 pub struct Duration(pub u16);
 
-// A coordinate of a place.
-pub struct Centimetres(pub i16);
+// A coordinate of a place, in the unit of the record that it is of: the record's kind says which. The work below is the same in every unit.
+pub struct Coordinate(pub i32);
 
-// A length that isn't negative, in centimetres: how far a dropped fix may be from its chord.
+// A length that isn't negative, in the record's unit: how far a dropped fix may be from its chord.
 pub struct Tolerance(pub u16);
 
 pub struct Fix {
     pub t: Seconds,
-    pub x: Centimetres,
-    pub y: Centimetres,
+    pub x: Coordinate,
+    pub y: Coordinate,
 }
 
 // The seconds from a to b, two times of one record. Nowhere else does a time on the clock become a number of 16 bits: check 9 has passed by then, and for the end
@@ -36,23 +41,49 @@ pub fn since(a: Seconds, b: Seconds) -> Duration
 }
 
 // N of one axis: d is the whole span's time, s the time from its start to m.
-fn axis_deviation(i: Centimetres, m: Centimetres, j: Centimetres, d: Duration, s: Duration) -> i64
+fn axis_deviation(i: Coordinate, m: Coordinate, j: Coordinate, d: Duration, s: Duration) -> i64
     ensures { λ r. ⌜ r ≡ N (i .0) (m .0) (j .0) (pos (d .0)) (pos (s .0)) ⌝ }
 {
     let start = i.0 as i64;
     ((m.0 as i64) - start) * (d.0 as i64) - ((j.0 as i64) - start) * (s.0 as i64)
 }
 
-// Nx² + Ny² of the inner fix m of the span from i to j. It is below 2⁶³, so the signed squares and their sum fit.
-pub fn deviation(i: Fix, m: Fix, j: Fix) -> u64
-    requires { ⌜ Span 16000 (fixOf i) (fixOf m) (fixOf j) ⌝ }
-    ensures { λ r. ⌜ r ≡ deviation (fixOf i) (fixOf m) (fixOf j) ⌝ }
+// Nx and Ny of an inner fix.
+struct PerAxis {
+    x: i64,
+    y: i64,
+}
+
+// Those of the inner fix m of the span from i to j.
+fn deviations(i: Fix, m: Fix, j: Fix) -> PerAxis
+    requires { ⌜ Between (fixOf i) (fixOf m) (fixOf j) ⌝ }
+    ensures { λ r. ⌜ (r .x ≡ Nx (fixOf i) (fixOf m) (fixOf j)) × (r .y ≡ Ny (fixOf i) (fixOf m) (fixOf j)) ⌝ }
 {
     let d = since(i.t, j.t);
     let s = since(i.t, m.t);
     let nx = axis_deviation(i.x, m.x, j.x, d, s);
     let ny = axis_deviation(i.y, m.y, j.y, d, s);
-    (nx * nx + ny * ny) as u64
+    PerAxis { x: nx, y: ny }
+}
+
+// Nx² + Ny² of the inner fix m of the span from i to j. Each signed square is below 2⁶³, so no branch is spent on a sign, and the sum is below 2⁶⁴.
+pub fn deviation(i: Fix, m: Fix, j: Fix) -> u64
+    requires { ⌜ Off one-word (fixOf i) (fixOf m) (fixOf j) ⌝ }
+    ensures { λ r. ⌜ r ≡ deviation (fixOf i) (fixOf m) (fixOf j) ⌝ }
+{
+    let n = deviations(i, m, j);
+    let x = n.x;
+    let y = n.y;
+    (x * x) as u64 + (y * y) as u64
+}
+
+// The same number in two words, for a span that one word may be too small for.
+pub fn deviation_words(i: Fix, m: Fix, j: Fix) -> Words
+    requires { ⌜ Off greatest-N (fixOf i) (fixOf m) (fixOf j) ⌝ }
+    ensures { λ r. ⌜ WordsOf (deviation (fixOf i) (fixOf m) (fixOf j)) r ⌝ }
+{
+    let n = deviations(i, m, j);
+    sum_of_squares(magnitude(n.x), magnitude(n.y))
 }
 
 // e²·D² of the span from i to j.
@@ -77,23 +108,23 @@ fn magnitude(z: i64) -> u64
 }
 
 // n/d, of numbers that aren't negative: the nearest whole number, halves upward.
-fn half_up(n: u64, d: u32) -> i16
+fn half_up(n: u64, d: u32) -> i32
     requires { ⌜ Roundable (pos n) d ⌝ }
     ensures { λ r. ⌜ r ≡ pos (half-up n d) ⌝ }
 {
     let over = d as u64;
-    ((2 * n + over) / (2 * over)) as i16
+    ((2 * n + over) / (2 * over)) as i32
 }
 
 // One axis of a place, n/d, rounded: the nearest whole number, halves away from 0. The magnitude is rounded and then gets the sign of n, so that both sides
 // of 0 are treated alike.
-pub fn rounded(n: i64, d: u32) -> Centimetres
+pub fn rounded(n: i64, d: u32) -> Coordinate
     requires { ⌜ Roundable n d ⌝ }
     ensures { λ r. ⌜ r .0 ≡ rounded n (pos d) ⌝ }
 {
     let whole = half_up(magnitude(n), d);
     if n < 0 {
-        return Centimetres(0 - whole);
+        return Coordinate(0 - whole);
     }
-    Centimetres(whole)
+    Coordinate(whole)
 }

@@ -5,7 +5,7 @@ use mathlib.Core.Option.{Option, some, none}
 use Prim.Native.Nat.{ℕ}
 use lib.IntN.{pos, natAbs}
 use Rattle.distance.specs.Fix.{Fix}
-use Rattle.format.specs.Format.{trail, count-field, mark-field}
+use Rattle.format.specs.Format.{kind-field, count-field, mark-field}
 use Rattle.record.specs.Checks.{read-refusal}
 use Rattle.record.specs.Answers.{Answer, gives, turns-away, answer}
 use Rattle.record.specs.Reading.{yields}
@@ -18,23 +18,23 @@ use Rattle.export.specs.declared.Run.{Run}
 use Rattle.export.specs.declared.Spot.{Spot}
 use Rattle.export.specs.declared.Crossing.{Crossing}
 
--- A record's count and mark, unless it is turned away.
+-- A record's kind, count and mark, unless it is turned away.
 abbrev pub checked-numbers : Option ℕ → List ℕ → Head
-checked-numbers none b = record { refusal = 0; count = count-field b; mark = mark-field b }
-checked-numbers (some k) b = record { refusal = k; count = 0; mark = 0 }
+checked-numbers none b = record { refusal = 0; kind = kind-field b; count = count-field b; mark = mark-field b }
+checked-numbers (some k) b = record { refusal = k; kind = 0; count = 0; mark = 0 }
 
 abbrev pub head-numbers : List ℕ → Head
-head-numbers b = checked-numbers (read-refusal trail b) b
+head-numbers b = checked-numbers (read-refusal b) b
 
 -- The reader makes checks 1 to 9, and yields the fix at a position or says that none is left.
 abbrev pub yield-answer : List ℕ → (position : ℕ) → Answer (Option Fix)
-yield-answer b position = answer (read-refusal trail b) (yields trail b position)
+yield-answer b position = answer (read-refusal b) (yields b position)
 
--- A fix, if there is one, unless there is a refusal.
-abbrev pub step-numbers : Answer (Option Fix) → Step
-step-numbers (gives (some f)) = record { refusal = 0; found = 1; t = f .t; x = f .x; y = f .y }
-step-numbers (gives none) = record { refusal = 0; found = 0; t = 0; x = pos 0; y = pos 0 }
-step-numbers (turns-away k) = record { refusal = k; found = 0; t = 0; x = pos 0; y = pos 0 }
+-- A fix of a record of this kind, if there is one, unless there is a refusal.
+abbrev pub step-numbers : (kind : ℕ) → Answer (Option Fix) → Step
+step-numbers kind (gives (some f)) = record { refusal = 0; found = 1; kind = kind; t = f .t; x = f .x; y = f .y }
+step-numbers kind (gives none) = record { refusal = 0; found = 0; kind = 0; t = 0; x = pos 0; y = pos 0 }
+step-numbers kind (turns-away k) = record { refusal = k; found = 0; kind = 0; t = 0; x = pos 0; y = pos 0 }
 
 -- A value, unless there is a refusal.
 abbrev pub value-numbers : Answer ℕ → Numbers

@@ -1,21 +1,19 @@
 -- The interface's numbers: 0 is no check's number, so that a refusal of 0 is none; and what the functions' arms answer.
-use mathlib.Core.Path.{_≡_, refl, sym, _∙_}
-use mathlib.Core.Bool.{Bool, true, false}
+use mathlib.Core.Path.{_≡_, refl, _∙_}
+use mathlib.Core.Bool.{Bool}
 use mathlib.Core.List.{List}
 use mathlib.Core.Option.{Option, some, none}
 use Prim.Native.Nat.{ℕ, _≤_}
 use native.Mathlib.Omega.{arith}
-use lib.Dec.{ltb}
 use lib.IntN.{ℤ, pos}
-use lib.ListN.{length}
-use borrow.Author.Tests.{ltb-true, ltb-false}
 use Rattle.distance.specs.Fix.{Fix}
-use Rattle.format.specs.Format.{trail, count-field, mark-field, of-head}
-use Rattle.record.specs.Checks.{Check, few-bytes, other-kind, bad-count, bad-length, short-record, bad-mark, misplaced, unordered, long-span, high-tolerance, bad-thousandths, bad-moment, bad-window, bad-box, short-output, number, first, FirstHolds, this, not-before, asked-of, refusal, placing, crossing as crosses, read-refusal}
+use Rattle.format.specs.Kinds.{Kind}
+use Rattle.format.specs.Format.{kind-field, count-field, mark-field, of-head}
+use Rattle.record.specs.Checks.{Check, few-bytes, other-kind, bad-count, bad-length, short-record, bad-mark, misplaced, unordered, long-span, high-tolerance, bad-thousandths, bad-moment, bad-window, bad-box, short-output, number, first, FirstHolds, this, not-before, refusal-of, placing, crossing as crosses, read-refusal}
 use Rattle.record.specs.Answers.{Answer, gives, turns-away, answer as told}
 use Rattle.writing.specs.Writing.{write-refusal, write-answer}
-use Rattle.record.specs.Laws.First.{some-none, stops, first-exactly}
-use Rattle.record.specs.Laws.Head.{says, few}
+use Rattle.record.specs.Laws.First.{first-exactly}
+use Rattle.record.specs.Laws.Head.{accepted-head}
 use Rattle.format.specs.Laws.Layout.{of-head-field}
 use Rattle.distance.specs.Box.{Box, box-with}
 use Rattle.record.specs.Reading.{yields, read-answer}
@@ -58,10 +56,10 @@ pub first-numbered : (says : Check → Bool) (l : List Check) (k : ℕ) → firs
 first-numbered says l k h = holds-numbered (first-exactly says k l .0 h)
 
 -- A refusal of 0 means that the record is accepted, ..
-pub head-none : (b : List ℕ) → head-numbers b .refusal ≡ 0 → read-refusal trail b ≡ none
-head-none b h = go (read-refusal trail b) refl h
+pub head-none : (b : List ℕ) → head-numbers b .refusal ≡ 0 → read-refusal b ≡ none
+head-none b h = go (read-refusal b) refl h
   where
-    go : (o : Option ℕ) → read-refusal trail b ≡ o → checked-numbers o b .refusal ≡ 0 → read-refusal trail b ≡ none
+    go : (o : Option ℕ) → read-refusal b ≡ o → checked-numbers o b .refusal ≡ 0 → read-refusal b ≡ none
     go none e z = e
     go (some k) e z = let p = first-numbered _ _ k e in absurd (omega arith)
 
@@ -74,8 +72,8 @@ answer-none f is says l a h = go (first says l) refl h
     go (some k) e z = let p = first-numbered says l k e in absurd (omega (arith, is k))
 
 -- .. the fixes are written, ..
-pub written-none : (l : List Fix) (out : List ℕ) → value-numbers (write-answer trail l out) .refusal ≡ 0 → write-refusal trail l out ≡ none
-written-none l out h = answer-none (λ a. value-numbers a .refusal) (λ k. refl) _ _ _ h
+pub written-none : (K : Kind) (l : List Fix) (out : List ℕ) → value-numbers (write-answer K l out) .refusal ≡ 0 → write-refusal K l out ≡ none
+written-none K l out h = answer-none (λ a. value-numbers a .refusal) (λ k. refl) _ _ _ h
 
 -- .. the record is aged, by tolerance or by days, ..
 pub aged-none : (b : List ℕ) (e : ℕ) → value-numbers (age-answer b e) .refusal ≡ 0 → age-refusal b e ≡ none
@@ -85,50 +83,46 @@ pub days-none : (b : List ℕ) (days : ℕ) → value-numbers (days-answer b day
 days-none b days h = answer-none (λ a. value-numbers a .refusal) (λ k. refl) _ _ _ h
 
 -- .. the fix is yielded, all of them are, the list is made, ..
-pub yielded-none : (b : List ℕ) (position : ℕ) → step-numbers (yield-answer b position) .refusal ≡ 0 → read-refusal trail b ≡ none
-yielded-none b position h = answer-none (λ a. step-numbers a .refusal) (λ k. refl) _ _ _ h
+pub yielded-none : (b : List ℕ) (position : ℕ) → step-numbers (kind-field b) (yield-answer b position) .refusal ≡ 0 → read-refusal b ≡ none
+yielded-none b position h = answer-none (λ a. step-numbers (kind-field b) a .refusal) (λ k. refl) _ _ _ h
 
-pub all-read-none : (b : List ℕ) → value-numbers (read-answer trail b) .refusal ≡ 0 → read-refusal trail b ≡ none
+pub all-read-none : (b : List ℕ) → value-numbers (read-answer b) .refusal ≡ 0 → read-refusal b ≡ none
 all-read-none b h = answer-none (λ a. value-numbers a .refusal) (λ k. refl) _ _ _ h
 
-pub run-made-none : (b : List ℕ) (calls : List Call) → run-numbers (run-answer b calls) .refusal ≡ 0 → read-refusal trail b ≡ none
+pub run-made-none : (b : List ℕ) (calls : List Call) → run-numbers (run-answer b calls) .refusal ≡ 0 → read-refusal b ≡ none
 run-made-none b calls h = answer-none (λ a. run-numbers a .refusal) (λ k. refl) _ _ _ h
 
 -- .. the place is given, the crossing is told or denied, and so is the one after a list.
-pub after-none : (b : List ℕ) (calls : List Call) (s e : ℕ) (x : Box) → crossing-numbers (after-answer b calls s e x) .refusal ≡ 0 → refusal trail crosses (asked-of trail b (asked-crossing s e x)) ≡ none
+pub after-none : (b : List ℕ) (calls : List Call) (s e : ℕ) (x : Box) → crossing-numbers (after-answer b calls s e x) .refusal ≡ 0 → refusal-of crosses b (asked-crossing s e x) ≡ none
 after-none b calls s e x h = answer-none (λ a. crossing-numbers a .refusal) (λ k. refl) _ _ _ h
 
-pub place-none : (b : List ℕ) (s m : ℕ) → spot-numbers (place-answer trail b s m) .refusal ≡ 0 → refusal trail placing (asked-of trail b (asked-moment s m)) ≡ none
+pub place-none : (b : List ℕ) (s m : ℕ) → spot-numbers (place-answer b s m) .refusal ≡ 0 → refusal-of placing b (asked-moment s m) ≡ none
 place-none b s m h = answer-none (λ a. spot-numbers a .refusal) (λ k. refl) _ _ _ h
 
-pub crossing-none : (b : List ℕ) (s e : ℕ) (x : Box) → crossing-numbers (cross-answer trail b s e x) .refusal ≡ 0 → refusal trail crosses (asked-of trail b (asked-crossing s e x)) ≡ none
+pub crossing-none : (b : List ℕ) (s e : ℕ) (x : Box) → crossing-numbers (cross-answer b s e x) .refusal ≡ 0 → refusal-of crosses b (asked-crossing s e x) ≡ none
 crossing-none b s e x h = answer-none (λ a. crossing-numbers a .refusal) (λ k. refl) _ _ _ h
 
 -- ---- the reading function
-pub step-found : (f : Fix) (x y : ℤ) (o : Option Fix) → x ≡ f .x → y ≡ f .y → some f ≡ o → _≡_ {A = Step} (record { refusal = 0; found = 1; t = f .t; x = x; y = y }) (step-numbers (gives o))
-step-found f x y o ex ey h = rw (ex, ey, ← h) refl
+pub step-found : (kind : ℕ) (f : Fix) (x y : ℤ) (o : Option Fix) → x ≡ f .x → y ≡ f .y → some f ≡ o → _≡_ {A = Step} (record { refusal = 0; found = 1; kind = kind; t = f .t; x = x; y = y }) (step-numbers kind (gives o))
+step-found kind f x y o ex ey h = rw (ex, ey, ← h) refl
 
-pub step-refused : (b : List ℕ) (position k n : ℕ) → n ≡ k → read-refusal trail b ≡ some k → _≡_ {A = Step} (record { refusal = n; found = 0; t = 0; x = pos 0; y = pos 0 }) (step-numbers (yield-answer b position))
+pub step-refused : (b : List ℕ) (position k n : ℕ) → n ≡ k → read-refusal b ≡ some k → _≡_ {A = Step} (record { refusal = n; found = 0; kind = 0; t = 0; x = pos 0; y = pos 0 }) (step-numbers (kind-field b) (yield-answer b position))
 step-refused b position k n e h = rw (h, e) refl
 
-pub step-yielded : (b : List ℕ) (position : ℕ) (s : Step) (o : Option Fix) → read-refusal trail b ≡ none → s ≡ step-numbers (gives o) → o ≡ yields trail b position → s ≡ step-numbers (yield-answer b position)
-step-yielded b position s o h e is = e ∙ rw (h, is) refl
+pub step-yielded : (b : List ℕ) (position kind : ℕ) (s : Step) (o : Option Fix) → read-refusal b ≡ none → kind ≡ of-head kind-field b → s ≡ step-numbers kind (gives o) → o ≡ yields b position
+    → s ≡ step-numbers (kind-field b) (yield-answer b position)
+step-yielded b position kind s o h k e is = e ∙ rw (h, is, k, of-head-field kind-field b (accepted-head b h .ten)) refl
 
 -- ---- the checking function
 module _ (b : List ℕ) where
-  -- an accepted record has a whole head
-  ten : read-refusal trail b ≡ none → 10 ≤ length b
-  ten h = go (ltb (length b) 10) refl
-    where
-      go : (t : Bool) → ltb (length b) 10 ≡ t → 10 ≤ length b
-      go true e = absurd (some-none (sym (stops (says b) few-bytes _ (few b (ltb-true _ _ e))) ∙ h))
-      go false e = ltb-false _ _ e
-
-  pub head-refused : (k n : ℕ) → n ≡ k → read-refusal trail b ≡ some k → _≡_ {A = Head} (record { refusal = n; count = 0; mark = 0 }) (head-numbers b)
+  pub head-refused : (k n : ℕ) → n ≡ k → read-refusal b ≡ some k → _≡_ {A = Head} (record { refusal = n; kind = 0; count = 0; mark = 0 }) (head-numbers b)
   head-refused k n e h = rw (h, e) refl
 
-  pub head-accepted : (n m : ℕ) → n ≡ of-head count-field b → m ≡ of-head mark-field b → read-refusal trail b ≡ none → _≡_ {A = Head} (record { refusal = 0; count = n; mark = m }) (head-numbers b)
-  head-accepted n m en em h = rw (h, en, em, of-head-field count-field b (ten h), of-head-field mark-field b (ten h)) refl
+  pub head-accepted : (k n m : ℕ) → k ≡ of-head kind-field b → n ≡ of-head count-field b → m ≡ of-head mark-field b → read-refusal b ≡ none
+      → _≡_ {A = Head} (record { refusal = 0; kind = k; count = n; mark = m }) (head-numbers b)
+  head-accepted k n m ek en em h =
+      let ten = accepted-head b h .ten in
+      rw (h, ek, en, em, of-head-field kind-field b ten, of-head-field count-field b ten, of-head-field mark-field b ten) refl
 
 -- ---- the questions: a place as numbers; and the same window and box are the same question
 pub spot-at : (s : Spot) (x y p q : ℤ) (a : Placed) → x ≡ s .x → y ≡ s .y → p ≡ s .whole .x .0 → q ≡ s .whole .y .0 → a ≡ Place.At s

@@ -4,16 +4,20 @@ mod questions_of;
 
 use aging::Aged;
 use aging::Days;
-use distance::Centimetres;
+use distance::Coordinate;
 use distance::Tolerance;
+use format::Kind;
+use writing::Written;
 ghost use mathlib.Core.Path.{_≡_};
 ghost use mathlib.Core.List.{_++_};
 ghost use Prim.Native.Nat.{_≤_};
 ghost use lib.ListN.{length, drop};
-ghost use Rattle.format.specs.Format.{trail};
+ghost use Rattle.format.specs.Kinds.{trail, millimetre-trail};
+ghost use Rattle.format.specs.Format.{kind-field};
 ghost use Rattle.text.specs.Text.{text};
 ghost use Rattle.record.specs.Reading.{read-answer, times-read, xs-read, ys-read};
 ghost use Rattle.record.specs.Answers.{gives, found};
+ghost use Rattle.writing.specs.Answers.{wrote};
 ghost use Rattle.writing.specs.Writing.{columns, write-answer, written};
 ghost use Rattle.aging.specs.Answers.{counted};
 ghost use Rattle.aging.specs.Aging.{age-answer, aged, days-answer, aged-by-days};
@@ -23,15 +27,17 @@ ghost use Rattle.export.specs.Interface.{head-numbers, yield-answer, ste
 #[repr(C)]
 pub struct Head {
     pub refusal: u32,
+    pub kind: u32,
     pub count: u32,
     pub mark: u32,
 }
 
-// A refusal, or a fix, where one was found.
+// A refusal, or a fix, where one was found, and the kind of its record, which says the unit of its place.
 #[repr(C)]
 pub struct Step {
     pub refusal: u32,
     pub found: u32,
+    pub kind: u32,
     pub t: u32,
     pub x: i32,
     pub y: i32,
@@ -67,7 +73,7 @@ pub struct Spot {
 pub struct Crossing {
     pub refusal: u32,
     pub crosses: u32,
-    pub numerator: u32,
+    pub numerator: u64,
     pub denominator: u32,
 }
 
@@ -77,10 +83,10 @@ fn wide(k: u8) -> u32
     k as u32
 }
 
-fn whole(c: Centimetres) -> i32
+fn whole(c: Coordinate) -> i32
     ensures { λ r. ⌜ r ≡ c .0 ⌝ }
 {
-    c.0 as i32
+    c.0
 }
 
 // Checks 1 to 9.
@@ -92,6 +98,7 @@ pub extern "C" fn trails_check(b: &[u8]) -> Head
     match c {
         record::Checked::Refused(k) => Head {
             refusal: wide(k),
+            kind: 0,
             count: 0,
             mark: 0,
         },
@@ -99,6 +106,7 @@ pub extern "C" fn trails_check(b: &[u8]) -> Head
             let h = format::head_of(b);
             Head {
                 refusal: 0,
+                kind: h.kind,
                 count: h.count,
                 mark: h.mark,
             }
@@ -106,9 +114,9 @@ pub extern "C" fn trails_check(b: &[u8]) -> Head
     }
 }
 
-// What a reader yielded, as numbers.
-fn step_of(s: record::Step) -> Step
-    ensures { λ r. ⌜ r ≡ step-numbers (gives (found s)) ⌝ }
+// What a reader yielded of a record of this kind, as numbers.
+fn step_of(s: record::Step, kind: u32) -> Step
+    ensures { λ r. ⌜ r ≡ step-numbers kind (gives (found s)) ⌝ }
 {
     match s {
         record::Step::Found(f) => {
@@ -116,6 +124,7 @@ fn step_of(s: record::Step) -> Step
             Step {
                 refusal: 0,
                 found: 1,
+                kind,
                 t: t.0,
                 x: whole(f.x),
                 y: whole(f.y),
@@ -124,6 +133,7 @@ fn step_of(s: record::Step) -> Step
         record::Step::NoneLeft => Step {
             refusal: 0,
             found: 0,
+            kind: 0,
             t: 0,
             x: 0,
             y: 0,
@@ -134,25 +144,29 @@ fn step_of(s: record::Step) -> Step
 // The fix that a reader at this position yields, after checks 1 to 9.
 #[no_mangle]
 pub extern "C" fn trails_read(b: &[u8], position: usize) -> Step
-    ensures { λ r. ⌜ r ≡ step-numbers (yield-answer (now (b .entry)) position) ⌝ }
+    ensures { λ r. ⌜ r ≡ step-numbers (kind-field (now (b .entry))) (yield-answer (now (b .entry)) position) ⌝ }
 {
     let c = record::check(b);
     match c {
         record::Checked::Refused(k) => Step {
             refusal: wide(k),
             found: 0,
+            kind: 0,
             t: 0,
             x: 0,
             y: 0,
         },
-        record::Checked::Accepted => step_of(record::read_at(b, position)),
+        record::Checked::Accepted => {
+            let h = format::head_of(b);
+            step_of(record::read_at(b, position), h.kind)
+        },
     }
 }
 
-// All fixes, after checks 1 to 9, in three columns: the inverse of trails_write.
+// All fixes, after checks 1 to 9, in three columns: the inverse of the two writers.
 #[no_mangle]
-pub extern "C" fn trails_read_all(b: &[u8], t: &mut [u32], x: &mut [i16], y: &mut [i16]) -> Answer
-    ensures { λ r. ⌜ (r ≡ value-numbers (read-answer trail (now (b .entry)))) × (now (t .exit) ≡ times-read trail (now (b .entry)) (now (t .entry))) × (now (x .exit) ≡ xs-read trail (now (b .entry)) (now (x .entry))) × (now (y .exit) ≡ ys-read trail (now (b .entry)) (now (y .entry))) ⌝ }
+pub extern "C" fn trails_read_all(b: &[u8], t: &mut [u32], x: &mut [i32], y: &mut [i32]) -> Answer
+    ensures { λ r. ⌜ (r ≡ value-numbers (read-answer (now (b .entry)))) × (now (t .exit) ≡ times-read (now (b .entry)) (now (t .entry))) × (now (x .exit) ≡ xs-read (now (b .entry)) (now (x .entry))) × (now (y .exit) ≡ ys-read (now (b .entry)) (now (y .entry))) ⌝ }
 {
     let a = record::read_all(b, t, x, y);
     match a {
@@ -167,28 +181,49 @@ pub extern "C" fn trails_read_all(b: &[u8], t: &mut [u32], x: &mut [i16], y: &mu
     }
 }
 
-// The record of the fixes whose times and coordinates the three columns have.
-#[no_mangle]
-pub extern "C" fn trails_write(t: &[u32], x: &[i16], y: &[i16], out: &mut [u8]) -> Answer
-    ensures { λ r. ⌜ (r ≡ value-numbers (write-answer trail (columns (now (t .entry)) (now (x .entry)) (now (y .entry))) (now (out .entry)))) × (now (out .exit) ≡ written trail (columns (now (t .entry)) (now (x .entry)) (now (y .entry))) (now (out .entry))) ⌝ }
+// What a writer answers, as numbers.
+fn length_of(w: Written) -> Answer
+    ensures { λ r. ⌜ r ≡ value-numbers (wrote w) ⌝ }
 {
-    let w = writing::write(t, x, y, out);
     match w {
-        writing::Written::Length(bytes) => Answer {
+        Written::Length(bytes) => Answer {
             refusal: 0,
             value: bytes,
         },
-        writing::Written::Refused(k) => Answer {
+        Written::Refused(k) => Answer {
             refusal: wide(k),
             value: 0,
         },
     }
 }
 
+// The record of the fixes whose times and coordinates the three columns have, in centimetres: kind 1.
+#[no_mangle]
+pub extern "C" fn trails_write(t: &[u32], x: &[i32], y: &[i32], out: &mut [u8]) -> Answer
+    ensures { λ r. ⌜ (r ≡ value-numbers (write-answer trail (columns (now (t .entry)) (now (x .entry)) (now (y .entry))) (now (out .entry)))) × (now (out .exit) ≡ written trail (columns (now (t .entry)) (now (x .entry)) (now (y .entry))) (now (out .entry))) ⌝ }
+{
+    let w = writing::write(Kind::Trail, t, x, y, out);
+    length_of(w)
+}
+
+// The same in millimetres: kind 2.
+#[no_mangle]
+pub extern "C" fn trails_write_millimetres(
+    t: &[u32],
+    x: &[i32],
+    y: &[i32],
+    out: &mut [u8],
+) -> Answer
+    ensures { λ r. ⌜ (r ≡ value-numbers (write-answer millimetre-trail (columns (now (t .entry)) (now (x .entry)) (now (y .entry))) (now (out .entry)))) × (now (out .exit) ≡ written millimetre-trail (columns (now (t .entry)) (now (x .entry)) (now (y .entry))) (now (out .entry))) ⌝ }
+{
+    let w = writing::write(Kind::MillimetreTrail, t, x, y, out);
+    length_of(w)
+}
+
 // The listing's text of the lent bytes, at the start of the output, and its length.
 #[no_mangle]
-pub extern "C" fn trails_list(b: &[u8], out: &mut [u8; 118805]) -> usize
-    ensures { λ r. ⌜ (r ≡ length (text trail (now (b .entry)))) × (r ≤ 118805) × (now (out .exit) ≡ text trail (now (b .entry)) ++ drop r (now (out .entry))) ⌝ }
+pub extern "C" fn trails_list(b: &[u8], out: &mut [u8; 126997]) -> usize
+    ensures { λ r. ⌜ (r ≡ length (text (now (b .entry)))) × (r ≤ 126997) × (now (out .exit) ≡ text (now (b .entry)) ++ drop r (now (out .entry))) ⌝ }
 {
     text::list(b, out)
 }

@@ -3,15 +3,15 @@ use crate::Crossing;
 use crate::Run;
 use crate::Spot;
 use crossing::Crossed;
-use crossing::Edge;
 use crossing::Edges;
 use crossing::Window;
+use distance::Coordinate;
 use distance::Seconds;
 use moment::Placed;
 use questions::Ran;
 ghost use mathlib.Core.Path.{_≡_};
 ghost use Rattle.distance.specs.Box.{box-with};
-ghost use Rattle.format.specs.Format.{trail, never, mark-field};
+ghost use Rattle.format.specs.Format.{never, mark-field};
 ghost use Rattle.record.specs.Checks.{IsAccepted};
 ghost use Rattle.moment.specs.Answers.{placed};
 ghost use Rattle.crossing.specs.Answers.{crossed, boxOf};
@@ -56,7 +56,7 @@ fn crossing_of(c: Crossed) -> Crossing
             refusal: 0,
             crosses: 1,
             numerator: f.num,
-            denominator: f.den as u32,
+            denominator: f.den,
         },
         Crossed::Denied => Crossing {
             refusal: 0,
@@ -86,17 +86,17 @@ fn edges(left: i32, right: i32, bottom: i32, top: i32) -> Edges
     ensures { λ r. ⌜ boxOf r ≡ box-with left right bottom top ⌝ }
 {
     Edges {
-        left: Edge(left),
-        right: Edge(right),
-        bottom: Edge(bottom),
-        top: Edge(top),
+        left: Coordinate(left),
+        right: Coordinate(right),
+        bottom: Coordinate(bottom),
+        top: Coordinate(top),
     }
 }
 
 // Where the trail is, so many thousandths after a second.
 #[no_mangle]
 pub extern "C" fn trails_place(b: &[u8], second: u32, thousandths: u16) -> Spot
-    ensures { λ r. ⌜ r ≡ spot-numbers (place-answer trail (now (b .entry)) second thousandths) ⌝ }
+    ensures { λ r. ⌜ r ≡ spot-numbers (place-answer (now (b .entry)) second thousandths) ⌝ }
 {
     let p = moment::place(b, Seconds(second), thousandths);
     spot_of(p)
@@ -113,7 +113,7 @@ pub extern "C" fn trails_crosses(
     bottom: i32,
     top: i32,
 ) -> Crossing
-    ensures { λ r. ⌜ (r ≡ crossing-numbers (cross-answer trail (now (b .entry)) start end (box-with left right bottom top))) × CrossMeans trail (now (b .entry)) start end (box-with left right bottom top) (cross-answer trail (now (b .entry)) start end (box-with left right bottom top)) ⌝ }
+    ensures { λ r. ⌜ (r ≡ crossing-numbers (cross-answer (now (b .entry)) start end (box-with left right bottom top))) × CrossMeans (now (b .entry)) start end (box-with left right bottom top) (cross-answer (now (b .entry)) start end (box-with left right bottom top)) ⌝ }
 {
     let c = crossing::crosses(b, window(start, end), edges(left, right, bottom, top));
     crossing_of(c)
@@ -157,7 +157,7 @@ pub extern "C" fn trails_crosses_after(
     bottom: i32,
     top: i32,
 ) -> Crossing
-    ensures { λ r. ⌜ (r ≡ crossing-numbers (after-answer (now (b .entry)) (calls-of (now (calls .entry))) start end (box-with left right bottom top))) × (now (b .exit) ≡ left-after (now (b .entry)) (calls-of (now (calls .entry))) start end (box-with left right bottom top)) × (IsAccepted trail (now (b .entry)) → mark-field (now (b .entry)) ≡ never → Claim (now (b .entry)) (calls-of (now (calls .entry)))) ⌝ }
+    ensures { λ r. ⌜ (r ≡ crossing-numbers (after-answer (now (b .entry)) (calls-of (now (calls .entry))) start end (box-with left right bottom top))) × (now (b .exit) ≡ left-after (now (b .entry)) (calls-of (now (calls .entry))) start end (box-with left right bottom top)) × (IsAccepted (now (b .entry)) → mark-field (now (b .entry)) ≡ never → Claim (now (b .entry)) (calls-of (now (calls .entry)))) ⌝ }
 {
     let c = questions::crosses_after(
         b,

@@ -1,4 +1,5 @@
 -- What is proved of the definitions, each law once.
+pub mod Kinds
 pub mod Each
 pub mod Numbers
 pub mod Stores

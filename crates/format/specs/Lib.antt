@@ -1,5 +1,6 @@
 -- What a reader must believe:
 pub mod Bytes
+pub mod Kinds
 pub mod Format
 -- rows of numbers, computed on those definitions:
 pub mod Examples

@@ -1,34 +1,60 @@
 // The format of a trail record: where the head's fields and the fixes stand in its bytes. What they may say is the record layer's to check.
 // The functions that read ask for the bytes that they read, and those that store for the bytes that they store to.
+mod kinds;
 mod numbers;
 
 ghost use mathlib.Core.Path.{_≡_};
-ghost use Prim.Native.Nat.{_+_, _*_, _<_, _≤_};
-ghost use lib.ListN.{length};
+ghost use Prim.Native.Nat.{_+_, _<_, _≤_, suc};
+ghost use lib.ListN.{length, take, drop};
 ghost use lib.Seq.{sets};
 ghost use Rattle.distance.specs.Fix.{fixOf};
-ghost use Rattle.format.specs.Format.{trail, length-field, kind-field, mark-field, count-field, of-head, fix-at, fix-bytes, header-bytes};
+ghost use Rattle.format.specs.Bytes.{InBytes};
+ghost use Rattle.format.specs.Kinds.{layout};
+ghost use Rattle.format.specs.Format.{length-field, kind-field, mark-field, count-field, of-head, record-length, fix-from, fix-at, fix-to, fix-bytes, header-bytes};
+use crate::kinds::code_of;
 use crate::numbers::coordinate;
 use crate::numbers::coordinate_number;
 use crate::numbers::four_at;
 use crate::numbers::put_four;
 use crate::numbers::put_two;
 use crate::numbers::two_at;
+use crate::numbers::wide_coordinate;
+use crate::numbers::wide_coordinate_number;
 use distance::Fix;
 use distance::Seconds;
+pub use kinds::kind_at;
+pub use kinds::known_kind;
+pub use kinds::limit_of;
+pub use kinds::per_centimetre;
+pub use kinds::record_length;
+pub use kinds::size_of;
+pub use kinds::top_of;
+pub use kinds::unit_of;
+
+// The kinds of record: in centimetres, and in millimetres. What each has otherwise is behind the matches of this crate.
+pub enum Kind {
+    Trail,
+    MillimetreTrail,
+}
+
+// The unit of a record's places and of all lengths that are asked of it.
+pub enum Unit {
+    Centimetres,
+    Millimetres,
+}
 
 // What a record's head says of it.
 pub struct Head {
+    pub kind: u32,
     pub count: u32,
     pub mark: u32,
 }
 
-// The fix at position k of a record whose bytes reach that far.
-pub fn fix_at(b: &[u8], k: usize) -> Fix
-    requires { ⌜ 18 + 8 * k ≤ length (now b) ⌝ }
-    ensures { λ r. ⌜ fixOf r ≡ fix-at trail (now (b .entry)) k ⌝ }
+// The fix at a place of the bytes, its coordinates of two bytes each ..
+fn narrow_fix(b: &[u8], at: usize) -> Fix
+    requires { ⌜ at + 8 ≤ length (now b) ⌝ }
+    ensures { λ r. ⌜ fixOf r ≡ fix-from 2 (now (b .entry)) at ⌝ }
 {
-    let at = 10 + 8 * k;
     let t = four_at(b, at);
     let x = coordinate(two_at(b, at + 4));
     let y = coordinate(two_at(b, at + 6));
@@ -39,20 +65,38 @@ pub fn fix_at(b: &[u8], k: usize) -> Fix
     }
 }
 
+// .. and of four.
+fn wide_fix(b: &[u8], at: usize) -> Fix
+    requires { ⌜ at + 12 ≤ length (now b) ⌝ }
+    ensures { λ r. ⌜ fixOf r ≡ fix-from 4 (now (b .entry)) at ⌝ }
+{
+    let t = four_at(b, at);
+    let x = wide_coordinate(four_at(b, at + 4));
+    let y = wide_coordinate(four_at(b, at + 8));
+    Fix {
+        t: Seconds(t),
+        x,
+        y,
+    }
+}
+
+// The fix at position k of a record whose bytes reach that far.
+pub fn fix_at(b: &[u8], kind: Kind, k: usize) -> Fix
+    requires { ⌜ record-length (layout kind) (suc k) ≤ length (now b) ⌝ }
+    ensures { λ r. ⌜ fixOf r ≡ fix-at (layout kind) (now (b .entry)) k ⌝ }
+{
+    match kind {
+        Kind::Trail => narrow_fix(b, 10 + 8 * k),
+        Kind::MillimetreTrail => wide_fix(b, 10 + 12 * k),
+    }
+}
+
 // How long the record's head says it is.
 pub fn length_at(b: &[u8]) -> u32
     requires { ⌜ 10 ≤ length (now b) ⌝ }
     ensures { λ r. ⌜ r ≡ length-field (now (b .entry)) ⌝ }
 {
     four_at(b, 0)
-}
-
-// The kind that the record's head says.
-pub fn kind_at(b: &[u8]) -> u32
-    requires { ⌜ 10 ≤ length (now b) ⌝ }
-    ensures { λ r. ⌜ r ≡ kind-field (now (b .entry)) ⌝ }
-{
-    two_at(b, 4)
 }
 
 // How many fixes the record's head says there are.
@@ -71,23 +115,28 @@ pub fn mark_at(b: &[u8]) -> u32
     two_at(b, 6)
 }
 
-// The count and the mark of a record, whoever made its bytes.
+// What the head of a record says, whoever made its bytes.
 pub fn head_of(b: &[u8]) -> Head
-    ensures { λ r. ⌜ (r .count ≡ of-head count-field (now (b .entry))) × (r .mark ≡ of-head mark-field (now (b .entry))) ⌝ }
+    ensures { λ r. ⌜ (r .kind ≡ of-head kind-field (now (b .entry))) × (r .count ≡ of-head count-field (now (b .entry))) × (r .mark ≡ of-head mark-field (now (b .entry))) ⌝ }
 {
     if b.len() < 10 {
-        return Head { count: 0, mark: 0 };
+        return Head {
+            kind: 0,
+            count: 0,
+            mark: 0,
+        };
     }
     Head {
+        kind: two_at(b, 4),
         count: two_at(b, 8),
         mark: two_at(b, 6),
     }
 }
 
-// A fix at a place of the output.
-pub fn put_fix(out: &mut [u8], at: usize, f: Fix)
-    requires { ⌜ at + 8 ≤ length (now out) ⌝ }
-    ensures { λ _. ⌜ now (out .exit) ≡ sets (now (out .entry)) at (fix-bytes trail (fixOf f)) ⌝ }
+// A fix at a place of the output, its coordinates in two bytes each ..
+fn put_narrow_fix(out: &mut [u8], at: usize, f: Fix)
+    requires { ⌜ (at + 8 ≤ length (now out)) × InBytes 2 (f .x .0) × InBytes 2 (f .y .0) ⌝ }
+    ensures { λ _. ⌜ now (out .exit) ≡ sets (now (out .entry)) at (fix-to 2 (fixOf f)) ⌝ }
 {
     let t = f.t;
     put_four(out, at, t.0);
@@ -95,13 +144,69 @@ pub fn put_fix(out: &mut [u8], at: usize, f: Fix)
     put_two(out, at + 6, coordinate_number(f.y));
 }
 
-// The head of a record of n fixes.
-pub fn put_head(out: &mut [u8], n: u32, mark: u32)
-    requires { ⌜ (n ≤ 4096) × (10 ≤ length (now out)) ⌝ }
-    ensures { λ _. ⌜ now (out .exit) ≡ sets (now (out .entry)) 0 (header-bytes trail mark n) ⌝ }
+// .. and in four.
+fn put_wide_fix(out: &mut [u8], at: usize, f: Fix)
+    requires { ⌜ at + 12 ≤ length (now out) ⌝ }
+    ensures { λ _. ⌜ now (out .exit) ≡ sets (now (out .entry)) at (fix-to 4 (fixOf f)) ⌝ }
 {
-    put_four(out, 0, 10 + 8 * n);
-    put_two(out, 4, 1);
+    let t = f.t;
+    put_four(out, at, t.0);
+    put_four(out, at + 4, wide_coordinate_number(f.x));
+    put_four(out, at + 8, wide_coordinate_number(f.y));
+}
+
+// A fix that its kind's bytes can say, at a place of the output.
+pub fn put_fix(out: &mut [u8], kind: Kind, at: usize, f: Fix)
+    requires { ⌜ (at + layout kind .size ≤ length (now out)) × InBytes (layout kind .width) (f .x .0) × InBytes (layout kind .width) (f .y .0) ⌝ }
+    ensures { λ _. ⌜ now (out .exit) ≡ sets (now (out .entry)) at (fix-bytes (layout kind) (fixOf f)) ⌝ }
+{
+    match kind {
+        Kind::Trail => put_narrow_fix(out, at, f),
+        Kind::MillimetreTrail => put_wide_fix(out, at, f),
+    }
+}
+
+// So many bytes from one place to another, whatever they say. All are read before any is stored.
+fn move_eight(b: &mut [u8], from: usize, to: usize)
+    requires { ⌜ (from + 8 ≤ length (now b)) × (to + 8 ≤ length (now b)) ⌝ }
+    ensures { λ _. ⌜ now (b .exit) ≡ sets (now (b .entry)) to (take 8 (drop from (now (b .entry)))) ⌝ }
+{
+    let first = four_at(b, from);
+    let second = four_at(b, from + 4);
+    put_four(b, to, first);
+    put_four(b, to + 4, second);
+}
+
+fn move_twelve(b: &mut [u8], from: usize, to: usize)
+    requires { ⌜ (from + 12 ≤ length (now b)) × (to + 12 ≤ length (now b)) ⌝ }
+    ensures { λ _. ⌜ now (b .exit) ≡ sets (now (b .entry)) to (take 12 (drop from (now (b .entry)))) ⌝ }
+{
+    let first = four_at(b, from);
+    let second = four_at(b, from + 4);
+    let third = four_at(b, from + 8);
+    put_four(b, to, first);
+    put_four(b, to + 4, second);
+    put_four(b, to + 8, third);
+}
+
+// The fix at position k, put at position w.
+pub fn move_fix(b: &mut [u8], kind: Kind, k: usize, w: usize)
+    requires { ⌜ (record-length (layout kind) (suc k) ≤ length (now b)) × (record-length (layout kind) (suc w) ≤ length (now b)) ⌝ }
+    ensures { λ _. ⌜ now (b .exit) ≡ sets (now (b .entry)) (record-length (layout kind) w) (fix-bytes (layout kind) (fix-at (layout kind) (now (b .entry)) k)) ⌝ }
+{
+    match kind {
+        Kind::Trail => move_eight(b, 10 + 8 * k, 10 + 8 * w),
+        Kind::MillimetreTrail => move_twelve(b, 10 + 12 * k, 10 + 12 * w),
+    }
+}
+
+// The head of a record of n fixes.
+pub fn put_head(out: &mut [u8], kind: Kind, n: u32, mark: u32)
+    requires { ⌜ (n ≤ 4096) × (10 ≤ length (now out)) ⌝ }
+    ensures { λ _. ⌜ now (out .exit) ≡ sets (now (out .entry)) 0 (header-bytes (layout kind) mark n) ⌝ }
+{
+    put_four(out, 0, record_length(kind, n));
+    put_two(out, 4, code_of(kind));
     put_two(out, 6, mark);
     put_two(out, 8, n);
 }

@@ -1,5 +1,5 @@
 -- ONE LEG COMPUTED: at which times of a leg each condition of a crossing holds, and the first time at which all do.
--- Times are seconds after the first fix, as fractions over |x_j − x_i|, |y_j − y_i| or 1, not reduced. Places are counted from −limit on,
+-- Times are seconds after the first fix, as fractions over |x_j − x_i|, |y_j − y_i| or 1, not reduced. Places are counted from −160,000 on,
 -- so that no number is negative. What a crossing means stands in crossing/specs/Crossing.antt; that what is computed here means it is `leg-said` of
 -- Laws/Legs.antt for a leg and `crossing-means` of the crossing's Laws/Crossing.antt for a trail.
 -- `-` is the library's on natural numbers, which stops at 0. Each place below says why that is right there.
@@ -10,7 +10,7 @@ use mathlib.Core.Option.{Option, some, none}
 use Prim.Native.Nat.{ℕ, _+_, _*_, _-_}
 use lib.Dec.{leb, ltb}
 use lib.IntN.{ℤ, pos, natAbs, _+ℤ_}
-use Rattle.distance.specs.Fix.{Fix}
+use Rattle.distance.specs.Fix.{Fix, widest}
 use Rattle.distance.specs.Box.{Box}
 use Rattle.legs.specs.declared.Fraction.{Fraction}
 use Rattle.legs.specs.declared.Times.{Times}
@@ -45,7 +45,7 @@ unfoldable pub first-of : Times → Option Fraction
 first-of t = cond (leb (t .first .num * t .last .den) (t .last .num * t .first .den)) (some (t .first)) none
 
 -- ---- one axis of a leg that begins at second A, takes D seconds and goes from a to b; the edges are low and high
--- On the move, v centimetres in all: from n centimetres gone to m.
+-- On the move, v units in all: from n units gone to m.
 abbrev pub moving : (A D v n m : ℕ) → Times
 moving A D v n m = times (A * v + D * n) (A * v + D * m) v
 
@@ -76,18 +76,18 @@ leg-times a b f w v =
 unfoldable pub leg-first : (a b : Raised) (f : Frame) (w v : ℕ) → Option Fraction
 leg-first a b f w v = first-of (leg-times a b f w v)
 
--- ---- a place counted from −limit on, which no checked place is below (`counts` of Laws/Legs.antt); a fix in seconds after the first one's, which is the
--- earliest; and a box
-abbrev pub offset-of : (limit : ℕ) → ℤ → ℕ
-offset-of limit z = natAbs (z +ℤ pos limit)
+-- ---- a place counted from −160,000 on, which no checked place of any kind is below (`counts` of Laws/Legs.antt); a fix in seconds after the first one's, which
+-- is the earliest; and a box. Only how far it is from one place to another matters, so that one place to count from serves every kind.
+abbrev pub offset-of : ℤ → ℕ
+offset-of z = natAbs (z +ℤ pos widest)
 
-abbrev pub raised : (limit first : ℕ) → Fix → Raised
-raised limit first a = record { t = record { 0 = a .t - first }; x = record { 0 = offset-of limit (a .x) }; y = record { 0 = offset-of limit (a .y) } }
+abbrev pub raised : (first : ℕ) → Fix → Raised
+raised first a = record { t = record { 0 = a .t - first }; x = record { 0 = offset-of (a .x) }; y = record { 0 = offset-of (a .y) } }
 
-abbrev pub framed : (limit : ℕ) → Box → Frame
-framed limit b = record {
-  left = record { 0 = offset-of limit (b .x-low) };
-  right = record { 0 = offset-of limit (b .x-high) };
-  bottom = record { 0 = offset-of limit (b .y-low) };
-  top = record { 0 = offset-of limit (b .y-high) };
+abbrev pub framed : Box → Frame
+framed b = record {
+  left = record { 0 = offset-of (b .x-low) };
+  right = record { 0 = offset-of (b .x-high) };
+  bottom = record { 0 = offset-of (b .y-low) };
+  top = record { 0 = offset-of (b .y-high) };
 }

@@ -6,36 +6,34 @@ ghost use mathlib.Core.Path.{_≡_};
 ghost use Prim.Native.Nat.{_*_};
 ghost use Rattle.legs.specs.Legs.{times, later-of, earlier-of, both, first-of};
 ghost use Rattle.legs.specs.Answers.{meeting};
+ghost use Rattle.legs.specs.Laws.Times.{Each};
+ghost use Rattle.legs.specs.Laws.Ranges.{FractionFits};
 
-// n·d, which fits
-fn product(n: u32, d: u16) -> u64
-    ensures { λ r. ⌜ r ≡ n * d ⌝ }
+// The numerator of f times the denominator of g: the left side of f ≤ g, and the right side of g ≤ f.
+fn product(f: Fraction, g: Fraction) -> u64
+    requires { ⌜ FractionFits f × FractionFits g ⌝ }
+    ensures { λ r. ⌜ r ≡ f .num * g .den ⌝ }
 {
-    (n as u64) * (d as u64)
+    f.num * (g.den as u64)
 }
 
 // Of equals the former.
 fn later_of(f: Fraction, g: Fraction) -> Fraction
+    requires { ⌜ FractionFits f × FractionFits g ⌝ }
     ensures { λ r. ⌜ r ≡ later-of f g ⌝ }
 {
-    if product(g.num, f.den) <= product(f.num, g.den) {
-        f
-    } else {
-        g
-    }
+    if product(g, f) <= product(f, g) { f } else { g }
 }
 
 fn earlier_of(f: Fraction, g: Fraction) -> Fraction
+    requires { ⌜ FractionFits f × FractionFits g ⌝ }
     ensures { λ r. ⌜ r ≡ earlier-of f g ⌝ }
 {
-    if product(f.num, g.den) <= product(g.num, f.den) {
-        f
-    } else {
-        g
-    }
+    if product(f, g) <= product(g, f) { f } else { g }
 }
 
 pub(crate) fn both(s: Times, t: Times) -> Times
+    requires { ⌜ Each FractionFits s × Each FractionFits t ⌝ }
     ensures { λ r. ⌜ r ≡ both s t ⌝ }
 {
     Times {
@@ -45,17 +43,18 @@ pub(crate) fn both(s: Times, t: Times) -> Times
 }
 
 pub(crate) fn first_of(t: Times) -> Meeting
+    requires { ⌜ Each FractionFits t ⌝ }
     ensures { λ r. ⌜ meeting r ≡ first-of t ⌝ }
 {
     let f = t.first;
     let l = t.last;
-    if product(f.num, l.den) <= product(l.num, f.den) {
+    if product(f, l) <= product(l, f) {
         return Meeting::At(f);
     }
     Meeting::Never
 }
 
-pub(crate) fn times(n: u32, m: u32, d: u16) -> Times
+pub(crate) fn times(n: u64, m: u64, d: u32) -> Times
     ensures { λ r. ⌜ r ≡ times n m d ⌝ }
 {
     Times {

@@ -8,16 +8,16 @@ use crate::Times;
 use crate::fractions::both;
 use crate::fractions::first_of;
 use crate::fractions::times;
-use distance::Centimetres;
+use distance::Coordinate;
 use distance::Duration;
 use distance::Fix;
 use distance::Seconds;
 ghost use mathlib.Core.Path.{_≡_};
 ghost use Prim.Native.Nat.{_+_, _*_, _-_, _≤_};
 ghost use Rattle.distance.specs.Fix.{fixOf};
-ghost use Rattle.legs.specs.Legs.{times, both, moving, axis-times, leg-times, leg-first, offset-of, raised};
+ghost use Rattle.legs.specs.Legs.{times, moving, axis-times, leg-times, leg-first, offset-of, raised};
 ghost use Rattle.legs.specs.Answers.{meeting};
-ghost use Rattle.legs.specs.Laws.Legs.{InLimit};
+ghost use Rattle.legs.specs.Laws.Legs.{InWidest};
 ghost use Rattle.legs.specs.Laws.Ranges.{LegFits, Reach};
 
 // ---- one axis of a leg
@@ -29,16 +29,14 @@ fn excess(a: Offset, b: Offset) -> Extent
     Extent(if b.0 < a.0 { a.0 - b.0 } else { 0 })
 }
 
-// The time at which n of the v centimetres are gone, times v.
-fn gone(start: Duration, takes: Duration, v: Extent, n: Extent) -> u32
-    requires { ⌜ LegFits (start .0) (takes .0) ⌝ }
+// The time at which n of the v units are gone, times v.
+fn gone(start: Duration, takes: Duration, v: Extent, n: Extent) -> u64
     ensures { λ r. ⌜ r ≡ start .0 * v .0 + takes .0 * n .0 ⌝ }
 {
-    (start.0 as u32) * (v.0 as u32) + (takes.0 as u32) * (n.0 as u32)
+    (start.0 as u64) * (v.0 as u64) + (takes.0 as u64) * (n.0 as u64)
 }
 
 fn moving(start: Duration, takes: Duration, v: Extent, n: Extent, m: Extent) -> Times
-    requires { ⌜ LegFits (start .0) (takes .0) ⌝ }
     ensures { λ r. ⌜ r ≡ moving (start .0) (takes .0) (v .0) (n .0) (m .0) ⌝ }
 {
     times(gone(start, takes, v, n), gone(start, takes, v, m), v.0)
@@ -46,15 +44,13 @@ fn moving(start: Duration, takes: Duration, v: Extent, n: Extent, m: Extent) -> 
 
 // The whole leg.
 fn whole(start: Duration, takes: Duration) -> Times
-    requires { ⌜ LegFits (start .0) (takes .0) ⌝ }
     ensures { λ r. ⌜ r ≡ times (start .0) (start .0 + takes .0) 1 ⌝ }
 {
-    times(start.0 as u32, (start.0 as u32) + (takes.0 as u32), 1)
+    times(start.0 as u64, (start.0 as u64) + (takes.0 as u64), 1)
 }
 
 // When the axis is between its edges.
 fn axis(start: Duration, takes: Duration, a: Offset, b: Offset, low: Offset, high: Offset) -> Times
-    requires { ⌜ LegFits (start .0) (takes .0) ⌝ }
     ensures { λ r. ⌜ r ≡ axis-times (start .0) (takes .0) (a .0) (b .0) (low .0) (high .0) ⌝ }
 {
     if a.0 < b.0 {
@@ -85,12 +81,12 @@ fn elapsed(a: Duration, b: Duration) -> Duration
 }
 
 fn leg_times(a: Raised, b: Raised, f: Frame, opens: Duration, closes: Duration) -> Times
-    requires { ⌜ a .t .0 ≤ b .t .0 ⌝ }
+    requires { ⌜ LegFits a b f ⌝ }
     ensures { λ r. ⌜ r ≡ leg-times a b f (opens .0) (closes .0) ⌝ }
 {
     let start = a.t;
     let takes = elapsed(a.t, b.t);
-    let window = times(opens.0 as u32, closes.0 as u32, 1);
+    let window = times(opens.0 as u64, closes.0 as u64, 1);
     let x = axis(start, takes, a.x, b.x, f.left, f.right);
     let y = axis(start, takes, a.y, b.y, f.bottom, f.top);
     both(both(both(whole(start, takes), window), x), y)
@@ -98,35 +94,28 @@ fn leg_times(a: Raised, b: Raised, f: Frame, opens: Duration, closes: Duration) 
 
 // The first time of the leg and of the window, from `opens` to `closes`, at which the leg is in the box.
 pub fn leg_first(a: Raised, b: Raised, f: Frame, opens: Duration, closes: Duration) -> Meeting
-    requires { ⌜ a .t .0 ≤ b .t .0 ⌝ }
+    requires { ⌜ LegFits a b f ⌝ }
     ensures { λ r. ⌜ meeting r ≡ leg-first a b f (opens .0) (closes .0) ⌝ }
 {
     first_of(leg_times(a, b, f, opens, closes))
 }
 
-// ---- places counted from −16,000 on, times from the first fix on
+// ---- places counted from −160,000 on, times from the first fix on
 
-pub fn offset_of(z: i32) -> Offset
-    requires { ⌜ InLimit z ⌝ }
-    ensures { λ r. ⌜ r .0 ≡ offset-of 16000 z ⌝ }
+pub fn offset_of(c: Coordinate) -> Offset
+    requires { ⌜ InWidest (c .0) ⌝ }
+    ensures { λ r. ⌜ r .0 ≡ offset-of (c .0) ⌝ }
 {
-    Offset((z + 16000) as u16)
-}
-
-fn place_offset(c: Centimetres) -> Offset
-    requires { ⌜ InLimit (c .0) ⌝ }
-    ensures { λ r. ⌜ r .0 ≡ offset-of 16000 (c .0) ⌝ }
-{
-    offset_of(c.0 as i32)
+    Offset((c.0 + 160000) as u32)
 }
 
 pub fn raise(f: Fix, zero: Seconds) -> Raised
     requires { ⌜ Reach (zero .0) (fixOf f) ⌝ }
-    ensures { λ r. ⌜ r ≡ raised 16000 (zero .0) (fixOf f) ⌝ }
+    ensures { λ r. ⌜ r ≡ raised (zero .0) (fixOf f) ⌝ }
 {
     Raised {
         t: distance::since(zero, f.t),
-        x: place_offset(f.x),
-        y: place_offset(f.y),
+        x: offset_of(f.x),
+        y: offset_of(f.y),
     }
 }

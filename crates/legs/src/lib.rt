@@ -1,5 +1,5 @@
 // The questions layer: when one leg of a trail is in a box. Whole seconds are 16-bit numbers after the first fix, and places are offsets above the lowest
-// one, so that no number is negative.
+// one, so that no number is negative. Lengths are in the unit of the record, and nothing here asks which one that is.
 mod fractions;
 mod leg;
 
@@ -8,11 +8,12 @@ pub use leg::leg_first;
 pub use leg::offset_of;
 pub use leg::raise;
 
-// Centimetres above the lowest place, −16,000.
-pub struct Offset(pub u16);
+// How far a place is above −160,000, the lowest one of the widest kind of record. It serves every kind: from one place to another it is as far, wherever the
+// counting begins.
+pub struct Offset(pub u32);
 
-// How far it is from one place of an axis to another, in centimetres: a length, where an offset is a place and a tolerance is asked for.
-pub struct Extent(pub u16);
+// How far it is from one place of an axis to another: a length, where an offset is a place and a tolerance is asked for.
+pub struct Extent(pub u32);
 
 // A fix in seconds after the first one, no number of it negative.
 pub struct Raised {
@@ -31,8 +32,8 @@ pub struct Frame {
 
 // The time num/den seconds after the first fix.
 pub struct Fraction {
-    pub num: u32,
-    pub den: u16,
+    pub num: u64,
+    pub den: u32,
 }
 
 // The times from the first to the last, both included.

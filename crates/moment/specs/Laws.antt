@@ -3,5 +3,6 @@ pub mod Moment
 pub mod Placing
 pub mod Mirror
 pub mod Moved
+pub mod Tenfold
 pub mod Ranges
 pub mod Walk

@@ -1,6 +1,7 @@
 -- What a reader must believe:
 pub mod Moment
 pub mod Mirror
+pub mod Tenfold
 pub mod Answers
 -- rows of numbers, computed on those definitions:
 pub mod Examples

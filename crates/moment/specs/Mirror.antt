@@ -3,13 +3,13 @@
 use Prim.Native.Nat.{ℕ}
 use mathlib.Core.List.{List}
 use Rattle.distance.specs.Mirror.{Mirror, mirrored, mirrored-fix, mirrored-place}
-use Rattle.format.specs.Format.{Kind, changed}
+use Rattle.format.specs.Format.{changed}
 use Rattle.record.specs.Answers.{Answer, gives, turns-away}
 use Rattle.moment.specs.Moment.{Standing}
 
 -- A record with each of its fixes mirrored.
-abbrev pub mirrored-record : Kind → Mirror → List ℕ → List ℕ
-mirrored-record K m b = changed K (mirrored-fix m) b
+abbrev pub mirrored-record : Mirror → List ℕ → List ℕ
+mirrored-record m b = changed (mirrored-fix m) b
 
 -- The fraction and the rounded place, both mirrored.
 abbrev pub mirrored-standing : Mirror → Standing → Standing

@@ -8,8 +8,8 @@ use Rattle.distance.specs.Fix.{Fix}
 use Rattle.distance.specs.Distance.{seconds}
 use Rattle.distance.specs.Place.{Place, own}
 use Rattle.distance.specs.Rounding.{rounded}
-use Rattle.format.specs.Format.{Kind, fixes}
-use Rattle.record.specs.Checks.{Given, asked-of, nothing, refusal, placing}
+use Rattle.format.specs.Format.{fixes}
+use Rattle.record.specs.Checks.{Given, nothing, refusal-of, placing}
 use Rattle.record.specs.Answers.{Answer, answer}
 
 -- One axis: "numerator x_i·1000·D + (x_j − x_i)·(1000·(s − t_i) + m)".
@@ -56,5 +56,5 @@ asked-moment s m = record {
 }
 
 -- THE ANSWER of the place question on lent bytes: "the place question 1 to 9, 11, 12".
-abbrev pub place-answer : Kind → List ℕ → (s m : ℕ) → Answer Standing
-place-answer K b s m = answer (refusal K placing (asked-of K b (asked-moment s m))) (beside (at-moment (fixes K b) s m))
+abbrev pub place-answer : List ℕ → (s m : ℕ) → Answer Standing
+place-answer b s m = answer (refusal-of placing b (asked-moment s m)) (beside (at-moment (fixes b) s m))

@@ -1,27 +1,29 @@
 // The questions layer: where a trail is at a moment.
-use distance::Centimetres;
+use distance::Coordinate;
 use distance::Fix;
 use distance::Seconds;
+use format::Kind;
 use record::Checked;
 ghost use mathlib.Core.Path.{_≡_};
-ghost use Prim.Native.Nat.{_+_, _*_, _-_};
-ghost use lib.IntN.{pos};
-ghost use Rattle.distance.specs.Fix.{fixOf};
+ghost use Prim.Native.Nat.{_+_, _*_, _≤_};
+ghost use lib.IntN.{pos, natAbs};
+ghost use Rattle.distance.specs.Fix.{fixOf, widest};
 ghost use Rattle.distance.specs.Place.{own, leg, interpolated, place};
-ghost use Rattle.format.specs.Format.{trail, fixes};
+ghost use Rattle.format.specs.Kinds.{layout};
+ghost use Rattle.format.specs.Format.{kind-of, fixes};
 ghost use Rattle.record.specs.Checks.{IsAccepted};
 ghost use Rattle.moment.specs.Moment.{beside, place-answer};
 ghost use Rattle.moment.specs.Answers.{standing, placed};
 ghost use Rattle.moment.specs.Laws.Moment.{instant};
 ghost use Rattle.moment.specs.Laws.Ranges.{OnLeg, Reached};
 
-// A place in whole centimetres.
+// A place in whole units of the record.
 pub struct Whole {
-    pub x: Centimetres,
-    pub y: Centimetres,
+    pub x: Coordinate,
+    pub y: Coordinate,
 }
 
-// The place (x/d, y/d) in centimetres, and beside it the rounded one.
+// The place (x/d, y/d) in the unit of the record, and beside it the rounded one.
 pub struct Spot {
     pub x: i64,
     pub y: i64,
@@ -48,7 +50,8 @@ fn instant_of(s: Seconds, m: u16) -> Instant
 }
 
 // One axis of a place: from i to j in `over` thousandths of a second, `gone` of them gone, over `over`.
-fn numerator(i: Centimetres, j: Centimetres, over: Thousandths, gone: Thousandths) -> i64
+fn numerator(i: Coordinate, j: Coordinate, over: Thousandths, gone: Thousandths) -> i64
+    requires { ⌜ (natAbs (i .0) ≤ widest) × (natAbs (j .0) ≤ widest) ⌝ }
     ensures { λ r. ⌜ r ≡ interpolated (i .0) (j .0) (pos (over .0)) (pos (gone .0)) ⌝ }
 {
     let start = i.0 as i64;
@@ -94,14 +97,14 @@ fn alone(a: Fix) -> Spot
 }
 
 // The place on the first leg whose end isn't earlier than the moment.
-fn place_on(b: &[u8], n: usize, u: Instant) -> Spot
-    requires { ⌜ Reached (now b) n (u .0) ⌝ }
-    ensures { λ r. ⌜ standing r ≡ beside (place (fixes trail (now (b .entry))) (instant (u .0))) ⌝ }
+fn place_on(b: &[u8], kind: Kind, n: usize, u: Instant) -> Spot
+    requires { ⌜ Reached (layout kind) (now b) n (u .0) ⌝ }
+    ensures { λ r. ⌜ standing r ≡ beside (place (fixes (now (b .entry))) (instant (u .0))) ⌝ }
 {
-    let mut a = format::fix_at(b, 0);
+    let mut a = format::fix_at(b, kind, 0);
     let mut k = 1;
     while k < n {
-        let z = format::fix_at(b, k);
+        let z = format::fix_at(b, kind, k);
         let end = instant_of(z.t, 0);
         if u.0 <= end.0 {
             return on_leg(a, z, u);
@@ -113,16 +116,16 @@ fn place_on(b: &[u8], n: usize, u: Instant) -> Spot
 }
 
 // Checks 11 and 12, and the answer, of a record that is accepted.
-fn place_accepted(b: &[u8], second: Seconds, thousandths: u16) -> Placed
-    requires { ⌜ IsAccepted trail (now b) ⌝ }
-    ensures { λ r. ⌜ placed r ≡ place-answer trail (now (b .entry)) (second .0) thousandths ⌝ }
+fn place_accepted(b: &[u8], kind: Kind, second: Seconds, thousandths: u16) -> Placed
+    requires { ⌜ IsAccepted (now b) × (layout kind ≡ kind-of (now b)) ⌝ }
+    ensures { λ r. ⌜ placed r ≡ place-answer (now (b .entry)) (second .0) thousandths ⌝ }
 {
     if 999 < thousandths {
         return Placed::Refused(11);
     }
     let n = format::count_at(b);
-    let first = format::fix_at(b, 0);
-    let last = format::fix_at(b, n - 1);
+    let first = format::fix_at(b, kind, 0);
+    let last = format::fix_at(b, kind, n - 1);
     let u = instant_of(second, thousandths);
     let start = instant_of(first.t, 0);
     if u.0 < start.0 {
@@ -132,16 +135,16 @@ fn place_accepted(b: &[u8], second: Seconds, thousandths: u16) -> Placed
     if end.0 < u.0 {
         return Placed::Refused(12);
     }
-    Placed::At(place_on(b, n, u))
+    Placed::At(place_on(b, kind, n, u))
 }
 
 // Where the trail of a record is at a moment: a second and so many thousandths.
 pub fn place(b: &[u8], second: Seconds, thousandths: u16) -> Placed
-    ensures { λ r. ⌜ placed r ≡ place-answer trail (now (b .entry)) (second .0) thousandths ⌝ }
+    ensures { λ r. ⌜ placed r ≡ place-answer (now (b .entry)) (second .0) thousandths ⌝ }
 {
     let v = record::check(b);
     match v {
         Checked::Refused(k) => Placed::Refused(k),
-        Checked::Accepted => place_accepted(b, second, thousandths),
+        Checked::Accepted => place_accepted(b, format::kind_at(b), second, thousandths),
     }
 }

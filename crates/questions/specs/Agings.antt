@@ -8,7 +8,8 @@ use lib.Dec.{ltb}
 use Rattle.distance.specs.Fix.{Fix, last-of}
 use Rattle.distance.specs.Place.{Time, From, Until}
 use Rattle.distance.specs.Box.{Box}
-use Rattle.format.specs.Format.{trail, never, fixes}
+use Rattle.format.specs.Kinds.{Kind}
+use Rattle.format.specs.Format.{never, fixes}
 use Rattle.record.specs.Checks.{read-refusal}
 use Rattle.record.specs.Answers.{Answer, gives, turns-away, answer, unless}
 use Rattle.thinning.specs.Thinning.{thinned}
@@ -32,23 +33,25 @@ refused-calls b [] = 0
 refused-calls b (c ∷ calls) = one-if-refused (answered b c) + refused-calls (left-by b c) calls
 
 abbrev pub run-answer : List ℕ → List Call → Answer ℕ
-run-answer b calls = answer (read-refusal trail b) (refused-calls b calls)
+run-answer b calls = answer (read-refusal b) (refused-calls b calls)
 
 -- A crossing asked after a list, as one call: whether the question is refused is decided first, and then "all lent bytes untouched"; else the list is made
 -- and the crossing is that of what is left. (`asked-after` of Laws/Asked.antt: it is what the crossing alone answers of what the list leaves.)
 abbrev pub after-answer : List ℕ → List Call → (s e : ℕ) → Box → Answer (Option Fraction)
-after-answer b calls s e box = answer (cross-refusal trail b s e box) (first-crossing (trail .limit) (fixes trail (run b calls)) box s e)
+after-answer b calls s e box = answer (cross-refusal b s e box) (first-crossing (fixes (run b calls)) box s e)
 
 abbrev pub left-after : List ℕ → List Call → (s e : ℕ) → Box → List ℕ
-left-after b calls s e box = unless (cross-refusal trail b s e box) b (run b calls)
+left-after b calls s e box = unless (cross-refusal b s e box) b (run b calls)
 
 -- "a plain book, fed each call's arguments and nothing from the program's record. It holds the original's fixes, never changed, and E, at first none."
+-- Their kind stands beside them, as never changed: E is in its unit, and a call's tolerance is held to its limit.
 pub record Book : Type 0 where
+  pub kind : Kind
   pub original : List Fix
   pub E : Option ℕ
 
-unfoldable pub new-book : List Fix → Book
-new-book l = record { original = l; E = none }
+unfoldable pub new-book : Kind → List Fix → Book
+new-book K l = record { kind = K; original = l; E = none }
 
 -- "makes E the greater of E and e, or e if E was none"; a call that applies no tolerance leaves E.
 unfoldable pub greater : Option ℕ → Option ℕ → Option ℕ
@@ -58,7 +61,7 @@ greater (some E) (some e) = some (max E e)
 
 -- What a call's arguments make of the book: no bytes are among them.
 unfoldable pub fed : Book → Call → Book
-fed k c = record { original = k .original; E = greater (k .E) (applies c) }
+fed k c = record { kind = k .kind; original = k .original; E = greater (k .E) (applies (k .kind) c) }
 
 unfoldable pub fed-all : Book → List Call → Book
 fed-all k [] = k

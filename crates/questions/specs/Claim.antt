@@ -8,7 +8,7 @@ use lib.ListN.{length, drop}
 use Rattle.distance.specs.Fix.{Fix}
 use Rattle.distance.specs.Place.{Time, From, Until, place, Proper, Near}
 use Rattle.distance.specs.Box.{Box, In, NearBox, NearSide}
-use Rattle.format.specs.Format.{trail, mark-field, length-field, fixes}
+use Rattle.format.specs.Format.{kind-of, mark-field, length-field, fixes}
 use Rattle.record.specs.Checks.{IsAccepted, bad-window, bad-box, sentence, FirstHolds, asked-of}
 use Rattle.record.specs.Answers.{Answer, gives, turns-away}
 use Rattle.aging.specs.Aging.{Call}
@@ -19,35 +19,36 @@ use Rattle.questions.specs.Agings.{Book, new-book, fed-all, run, after-a
 -- What the crossing's answer on the aged record c says of the original, for one window from s to e and one box.
 pub data CrossingSays (E : ℕ) (original : List Fix) (c : List ℕ) (s e : ℕ) (box : Box) : Answer (Option Fraction) → Type 0 where
   -- turned away by 13 or 14 and by nothing else, the first of the two whose sentence holds
-  says-refused : {k : ℕ} → FirstHolds (sentence trail (asked-of trail c (asked-crossing s e box))) k (bad-window ∷ bad-box ∷ []) → CrossingSays E original c s e box (turns-away k)
+  says-refused : {k : ℕ} → FirstHolds (sentence (kind-of c) (asked-of c (asked-crossing s e box))) k (bad-window ∷ bad-box ∷ []) → CrossingSays E original c s e box (turns-away k)
   -- told: true of the aged trail, and at that time the original is within E of the box
-  says-told : {f : Fraction} (t : Told (fixes trail c) box s e (f .num) (f .den)) → NearBox E box (place original (after-first (fixes trail c) (f .num) (f .den) (t .some-denominator)))
+  says-told : {f : Fraction} (t : Told (kind-of c .limit) (fixes c) box s e (f .num) (f .den)) → NearBox E box (place original (after-first (fixes c) (f .num) (f .den) (t .some-denominator)))
       → CrossingSays E original c s e box (gives (some f))
   -- denied: true of the aged trail, and whenever in the window the original is in the box, it is at most E from one of the box's sides
-  says-denied : Denied (fixes trail c) box s e → ((u : Time) → From s u → Until e u → In box (place original u) → NearSide E box (place original u)) → CrossingSays E original c s e box (gives none)
+  says-denied : Denied (fixes c) box s e → ((u : Time) → From s u → Until e u → In box (place original u) → NearSide E box (place original u)) → CrossingSays E original c s e box (gives none)
 
--- The book after the list, and the buffer.
+-- The book after the list, and the buffer. E and all lengths are in the original's unit.
 abbrev pub book : List ℕ → List Call → Book
-book b calls = fed-all (new-book (fixes trail b)) calls
+book b calls = fed-all (new-book (kind-of b) (fixes b)) calls
 
 abbrev pub bound-after : List ℕ → List Call → ℕ
 bound-after b calls = counts-as ((book b calls) .E)
 
 pub record Claim (b : List ℕ) (calls : List Call) : Type 0 where
-  -- the book's fixes are the original's
-  pub never-changed : (book b calls) .original ≡ fixes trail b
+  -- the record stays of its kind, and the book's fixes are the original's
+  pub same-kind : kind-of (run b calls) ≡ kind-of b
+  pub never-changed : (book b calls) .original ≡ fixes b
   -- "After the list, the record's fixes equal those that thinning, as defined above, keeps of the book's fixes at E, and its mark is E."
-  pub still-accepted : IsAccepted trail (run b calls)
-  pub exactly : fixes trail (run b calls) ≡ kept-at ((book b calls) .E) ((book b calls) .original)
+  pub still-accepted : IsAccepted (run b calls)
+  pub exactly : fixes (run b calls) ≡ kept-at ((book b calls) .E) ((book b calls) .original)
   pub marked : mark-field (run b calls) ≡ mark-of ((book b calls) .E)
   -- the buffer after the original's record is as it was
   pub same-size : length (run b calls) ≡ length b
   pub rest : drop (length-field b) (run b calls) ≡ drop (length-field b) b
   -- the places below have denominators of at least 1: comparisons are multiplied out by them, and of any two places over 0 `Near` would hold
-  pub denominators : (u : Time) → Proper (place ((book b calls) .original) u) × Proper (place (fixes trail (run b calls)) u)
+  pub denominators : (u : Time) → Proper (place ((book b calls) .original) u) × Proper (place (fixes (run b calls)) u)
   -- at every fractional time from first to last the two places are at most E apart
-  pub near : (u : Time) → AskedOf ((book b calls) .original) u → Near (bound-after b calls) (place ((book b calls) .original) u) (place (fixes trail (run b calls)) u)
+  pub near : (u : Time) → AskedOf ((book b calls) .original) u → Near (bound-after b calls) (place ((book b calls) .original) u) (place (fixes (run b calls)) u)
   -- a crossing asked after the list is the crossing of what the list left ..
-  pub asked-then : (s e : ℕ) (box : Box) → after-answer b calls s e box ≡ cross-answer trail (run b calls) s e box
+  pub asked-then : (s e : ℕ) (box : Box) → after-answer b calls s e box ≡ cross-answer (run b calls) s e box
   -- .. and told or denied it is true of the original within E
-  pub crossings : (s e : ℕ) (box : Box) → CrossingSays (bound-after b calls) ((book b calls) .original) (run b calls) s e box (cross-answer trail (run b calls) s e box)
+  pub crossings : (s e : ℕ) (box : Box) → CrossingSays (bound-after b calls) ((book b calls) .original) (run b calls) s e box (cross-answer (run b calls) s e box)

@@ -4,28 +4,34 @@ use mathlib.Core.Path.{_≡_, refl}
 use mathlib.Core.List.{List, [], _∷_}
 use mathlib.Core.Option.{Option, some, none}
 use Prim.Native.Nat.{ℕ}
+use native.Mathlib.Omega.{arith}
 use lib.IntN.{pos}
 use Rattle.distance.specs.Distance.{deviation, allowance}
 use Rattle.distance.specs.Box.{Box, box-with}
+use Rattle.distance.specs.Tenfold.{tenfold-box}
 use Rattle.distance.specs.Clock.{moved}
 use Rattle.distance.specs.Laws.All.{All, all-always}
 use Rattle.format.specs.Bytes.{number-at, bytes-of, signed, unsigned}
-use Rattle.format.specs.Format.{trail, never, mark-field, fix-at, each, fix-bytes, all-bytes, header-bytes, record-bytes}
+use Rattle.format.specs.Format.{kind-of, never, mark-field, fix-from, fix-at, each, fix-to, fix-bytes, all-bytes, header-bytes, record-bytes}
 use Rattle.record.specs.Checks.{IsAccepted, sentence, first, some-outside, some-early-after, some-early, of-ends}
 use Rattle.record.specs.Answers.{Answer, gives, turns-away}
 use Rattle.format.specs.Laws.RoundTrip.{AreBytes, all-below, computed-bytes}
 use Rattle.thinning.specs.Thinning.{sooner, furthest, every, but-last, thin-span, thin, thinning}
 use Rattle.aging.specs.Examples.{straight}
 use Rattle.aging.specs.Aging.{Call, by-tolerance, by-days, new-mark, thinned-record, last-row}
+use Rattle.aging.specs.Tenfold.{at-ten-times, by-same-days, both-too-high}
 use Rattle.legs.specs.declared.Fraction.{Fraction}
 use Rattle.crossing.specs.Crossing.{first-crossing, first-from, cross-answer}
 use Rattle.legs.specs.Legs.{leg-first, leg-times, axis-times, first-of, later-of, earlier-of}
 use Rattle.record.specs.Examples.{MovableRow, movable-rows}
 use Rattle.record.specs.Moved.{moved-record}
+use Rattle.record.specs.Tenfold.{tenfold-mark, tenfold-record}
 use Rattle.questions.specs.Agings.{run, after-answer}
-use Rattle.questions.specs.Laws.Moved.{after-answer-moved}
 use Rattle.questions.specs.Claim.{Claim}
+use Rattle.questions.specs.Tenfold.{TenfoldCalls, no-calls, and-then, all-answered, TenfoldClaim}
+use Rattle.questions.specs.Laws.Moved.{after-answer-moved}
 use Rattle.questions.specs.Laws.Claim.{claim}
+use Rattle.questions.specs.Laws.Tenfold.{made-tenfold}
 use Rattle.distance.specs.Fix.{last-of}
 
 abbrev pub lent : List ℕ
@@ -60,9 +66,28 @@ straight-at-0 =
     ∷ 20 ∷ 0 ∷ 0 ∷ 0 ∷ 200 ∷ 0 ∷ 0 ∷ 0
     ∷ []
 
+-- the first trail in millimetres, (0,0,0) (10,200,0) (20,200,0) (30,0,0), and what thinning at 32,001 leaves of it: the first fix and the last, marked so
+abbrev pub lent-in-kind-2 : List ℕ
+lent-in-kind-2 =
+    58 ∷ 0 ∷ 0 ∷ 0 ∷ 2 ∷ 0 ∷ 255 ∷ 255 ∷ 4 ∷ 0
+    ∷ 0 ∷ 0 ∷ 0 ∷ 0 ∷ 0 ∷ 0 ∷ 0 ∷ 0 ∷ 0 ∷ 0 ∷ 0 ∷ 0
+    ∷ 10 ∷ 0 ∷ 0 ∷ 0 ∷ 200 ∷ 0 ∷ 0 ∷ 0 ∷ 0 ∷ 0 ∷ 0 ∷ 0
+    ∷ 20 ∷ 0 ∷ 0 ∷ 0 ∷ 200 ∷ 0 ∷ 0 ∷ 0 ∷ 0 ∷ 0 ∷ 0 ∷ 0
+    ∷ 30 ∷ 0 ∷ 0 ∷ 0 ∷ 0 ∷ 0 ∷ 0 ∷ 0 ∷ 0 ∷ 0 ∷ 0 ∷ 0
+    ∷ 7 ∷ 9 ∷ []
+
+abbrev pub left-at-32001 : List ℕ
+left-at-32001 =
+    34 ∷ 0 ∷ 0 ∷ 0 ∷ 2 ∷ 0 ∷ 1 ∷ 125 ∷ 2 ∷ 0
+    ∷ 0 ∷ 0 ∷ 0 ∷ 0 ∷ 0 ∷ 0 ∷ 0 ∷ 0 ∷ 0 ∷ 0 ∷ 0 ∷ 0
+    ∷ 30 ∷ 0 ∷ 0 ∷ 0 ∷ 0 ∷ 0 ∷ 0 ∷ 0 ∷ 0 ∷ 0 ∷ 0 ∷ 0
+    ∷ 20 ∷ 0 ∷ 0 ∷ 0 ∷ 200 ∷ 0 ∷ 0 ∷ 0 ∷ 0 ∷ 0 ∷ 0 ∷ 0
+    ∷ 30 ∷ 0 ∷ 0 ∷ 0 ∷ 0 ∷ 0 ∷ 0 ∷ 0 ∷ 0 ∷ 0 ∷ 0 ∷ 0
+    ∷ 7 ∷ 9 ∷ []
+
 -- ---- what the claim asks
-pub lent-accepted : IsAccepted trail lent
-unfolding first sentence some-outside some-early-after some-early last-of of-ends fix-at each number-at signed
+pub lent-accepted : IsAccepted lent
+unfolding first sentence some-outside some-early-after some-early last-of of-ends kind-of fix-from fix-at each number-at signed
 lent-accepted = record { accepted = refl }
 
 pub lent-bytes : AreBytes lent
@@ -76,6 +101,11 @@ lent-never = refl
 -- ---- the claim holds of every list of calls on it
 pub on-lent : (calls : List Call) → Claim lent calls
 on-lent calls = claim lent calls lent-bytes lent-accepted lent-never
+
+-- .. and on the record of kind 2
+pub on-kind-2 : (calls : List Call) → Claim lent-in-kind-2 calls
+unfolding all-below first sentence some-outside some-early-after some-early last-of of-ends kind-of fix-from fix-at each number-at signed
+on-kind-2 calls = claim lent-in-kind-2 calls (computed-bytes lent-in-kind-2 refl) (record { accepted = refl }) refl
 
 -- A buffer, the calls on it, and the bytes that they leave.
 pub record Example : Type 0 where
@@ -96,6 +126,9 @@ cases =
     -- E 0 is not E none, though both count as 0 for the bound: the fix in the middle of a straight line goes, and the mark is 0
     ∷ record { buffer = straight; calls = by-days 1 ∷ []; bytes = straight }
     ∷ record { buffer = straight; calls = by-tolerance 0 ∷ []; bytes = straight-at-0 }
+    -- of kind 2, 60,001 is refused and 32,001 is not; day 7 thins at 250, which the mark stays above
+    ∷ record { buffer = lent-in-kind-2; calls = by-tolerance 60001 ∷ []; bytes = lent-in-kind-2 }
+    ∷ record { buffer = lent-in-kind-2; calls = by-tolerance 32001 ∷ by-days 7 ∷ []; bytes = left-at-32001 }
     ∷ []
 
 abbrev pub computed : List Example → List (List ℕ)
@@ -107,7 +140,7 @@ expected [] = []
 expected (r ∷ l) = r .bytes ∷ expected l
 
 pub examples : computed cases ≡ expected cases
-unfolding run thinned-record new-mark last-row thinning thin thin-span furthest sooner every but-last last-of deviation allowance first sentence some-outside some-early-after some-early of-ends fix-at each number-at signed unsigned bytes-of fix-bytes all-bytes header-bytes record-bytes
+unfolding run thinned-record new-mark last-row thinning thin thin-span furthest sooner every but-last last-of deviation allowance first sentence some-outside some-early-after some-early of-ends kind-of fix-from fix-at each number-at signed unsigned bytes-of fix-to fix-bytes all-bytes header-bytes record-bytes
 examples = refl
 
 -- ---- the crossing on it: the original reaches x = 20, what is left at 25 does not
@@ -115,13 +148,50 @@ abbrev pub shelf : Box
 shelf = box-with (pos 10) (pos 20) (pos 0) (pos 0)
 
 abbrev pub answers : List (Answer (Option Fraction))
-answers = cross-answer trail lent 0 30 shelf ∷ cross-answer trail left-at-25 0 30 shelf ∷ cross-answer trail lent 0 31 shelf ∷ []
+answers = cross-answer lent 0 30 shelf ∷ cross-answer left-at-25 0 30 shelf ∷ cross-answer lent 0 31 shelf
+    ∷ cross-answer lent-in-kind-2 0 30 (tenfold-box shelf) ∷ cross-answer left-at-32001 0 30 (tenfold-box shelf) ∷ []
 
-pub crossings : answers ≡ gives (some (record { num = 100; den = 20 })) ∷ gives none ∷ turns-away 13 ∷ []
-unfolding first sentence some-outside some-early-after some-early last-of of-ends fix-at each number-at signed first-crossing first-from leg-first leg-times axis-times first-of later-of earlier-of
+pub crossings : answers ≡ gives (some (record { num = 100; den = 20 })) ∷ gives none ∷ turns-away 13
+    ∷ gives (some (record { num = 1000; den = 200 })) ∷ gives none ∷ []
+unfolding first sentence some-outside some-early-after some-early last-of of-ends kind-of fix-from fix-at each number-at signed first-crossing first-from leg-first leg-times axis-times first-of later-of earlier-of
 crossings = refl
 
 -- ---- the law of a moved clock and a list, of bytes that are accepted and of refused ones
-pub movable-after : All (λ (m : MovableRow). after-answer (moved-record trail (m .by) (m .buffer)) (by-days 7 ∷ by-tolerance 32001 ∷ []) (moved (m .by) (m .asked)) (moved (m .by) (m .asked)) shelf
+pub movable-after : All (λ (m : MovableRow). after-answer (moved-record (m .by) (m .buffer)) (by-days 7 ∷ by-tolerance 32001 ∷ []) (moved (m .by) (m .asked)) (moved (m .by) (m .asked)) shelf
     ≡ after-answer (m .buffer) (by-days 7 ∷ by-tolerance 32001 ∷ []) (m .asked) (m .asked) shelf) movable-rows
 movable-after = all-always (λ (m : MovableRow). after-answer-moved (m .by) (m .buffer) (by-days 7 ∷ by-tolerance 32001 ∷ []) (m .bytes) (m .movable) (m .asked) (m .asked) shelf (m .asked-stays) (m .asked-stays)) movable-rows
+
+-- ---- CENTIMETRES AND MILLIMETRES: the buffer above, and its trail in millimetres. The claim holds of every two lists of the same agings, such as these: at 12 and 120, at a
+-- tolerance that each turns away, by days, which is at 25 and 250, and at the greatest that both have.
+pub lent-in-millimetres : {calls tens : List Call} → TenfoldCalls calls tens → TenfoldClaim lent (tenfold-record lent) calls tens
+unfolding kind-of number-at
+lent-in-millimetres k = made-tenfold lent lent-bytes lent-accepted refl lent-never k
+
+pub same-agings : TenfoldCalls (by-tolerance 12 ∷ by-tolerance 32001 ∷ by-days 7 ∷ by-tolerance 6000 ∷ []) (by-tolerance 120 ∷ by-tolerance 60001 ∷ by-days 7 ∷ by-tolerance 60000 ∷ [])
+same-agings = and-then (at-ten-times {e = 12} (omega arith)) (and-then (both-too-high {e = 32001} {d = 60001} (omega arith) (omega arith)) (and-then by-same-days (and-then (at-ten-times {e = 6000} (omega arith)) no-calls)))
+
+-- In numbers: at 120 the first, the second and the last fix stay, as at 12, and by days of those the first and the last, under a mark of 250. (0, 20 and 0 centimetres are
+-- 0, 200 and 0 millimetres.)
+abbrev pub millimetres-at-120 : List ℕ
+millimetres-at-120 =
+    46 ∷ 0 ∷ 0 ∷ 0 ∷ 2 ∷ 0 ∷ 120 ∷ 0 ∷ 3 ∷ 0
+    ∷ 0 ∷ 0 ∷ 0 ∷ 0 ∷ 0 ∷ 0 ∷ 0 ∷ 0 ∷ 0 ∷ 0 ∷ 0 ∷ 0
+    ∷ 10 ∷ 0 ∷ 0 ∷ 0 ∷ 200 ∷ 0 ∷ 0 ∷ 0 ∷ 0 ∷ 0 ∷ 0 ∷ 0
+    ∷ 30 ∷ 0 ∷ 0 ∷ 0 ∷ 0 ∷ 0 ∷ 0 ∷ 0 ∷ 0 ∷ 0 ∷ 0 ∷ 0
+    ∷ 30 ∷ 0 ∷ 0 ∷ 0 ∷ 0 ∷ 0 ∷ 0 ∷ 0 ∷ 0 ∷ 0 ∷ 0 ∷ 0
+    ∷ []
+
+abbrev pub millimetres-at-120-and-250 : List ℕ
+millimetres-at-120-and-250 =
+    34 ∷ 0 ∷ 0 ∷ 0 ∷ 2 ∷ 0 ∷ 250 ∷ 0 ∷ 2 ∷ 0
+    ∷ 0 ∷ 0 ∷ 0 ∷ 0 ∷ 0 ∷ 0 ∷ 0 ∷ 0 ∷ 0 ∷ 0 ∷ 0 ∷ 0
+    ∷ 30 ∷ 0 ∷ 0 ∷ 0 ∷ 0 ∷ 0 ∷ 0 ∷ 0 ∷ 0 ∷ 0 ∷ 0 ∷ 0
+    ∷ 30 ∷ 0 ∷ 0 ∷ 0 ∷ 0 ∷ 0 ∷ 0 ∷ 0 ∷ 0 ∷ 0 ∷ 0 ∷ 0
+    ∷ 30 ∷ 0 ∷ 0 ∷ 0 ∷ 0 ∷ 0 ∷ 0 ∷ 0 ∷ 0 ∷ 0 ∷ 0 ∷ 0
+    ∷ []
+
+pub millimetres-left : (run (tenfold-record lent) (by-tolerance 120 ∷ []) ≡ millimetres-at-120)
+    × (run (tenfold-record lent) (by-tolerance 120 ∷ by-tolerance 60001 ∷ by-days 7 ∷ []) ≡ millimetres-at-120-and-250)
+    × (all-answered (tenfold-record lent) (by-tolerance 120 ∷ by-tolerance 60001 ∷ by-days 7 ∷ []) ≡ gives 3 ∷ turns-away 10 ∷ gives 1 ∷ [])
+unfolding tenfold-record tenfold-mark all-answered run thinned-record new-mark last-row thinning thin thin-span furthest sooner every but-last last-of deviation allowance first sentence some-outside some-early-after some-early of-ends kind-of fix-from fix-at each number-at signed unsigned bytes-of fix-to fix-bytes all-bytes header-bytes record-bytes
+millimetres-left = (refl, refl, refl)

@@ -2,4 +2,5 @@
 pub mod Agings
 pub mod Asked
 pub mod Moved
+pub mod Tenfold
 pub mod Claim

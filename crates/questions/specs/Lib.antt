@@ -2,6 +2,7 @@
 pub mod Agings
 pub mod Answers
 pub mod Claim
+pub mod Tenfold
 -- the worked trails, computed on those definitions:
 pub mod Worked
 pub mod Examples

@@ -1,11 +1,11 @@
 -- TRAILS WORKED BY HAND. Document 01: "Fixes as (t, x, y), positions from 0. All twelve are to be shown of the definitions by one shared statement over
--- a list of them". The list is `rows`, the line below the table is `rows-below`, the statement is `Holds` of each row, and `worked` and
--- `worked-below` prove it.
+-- a list of them". The list is `rows`, the line below the table is `rows-below`, and `millimetre-rows` has those of kind 2. The statement is `Holds` of each row, and `worked`,
+-- `worked-below` and `worked-in-millimetres` prove it.
 -- Every row speaks of a record's bytes and of the definitions that the contracts of the calls cite.
 use mathlib.Core.Path.{_≡_, refl}
-use mathlib.Core.List.{List, [], _∷_, _++_}
+use mathlib.Core.List.{List, [], _∷_, _++_, map}
 use mathlib.Core.Option.{Option, some, none}
-use Prim.Native.Nat.{ℕ, _*_, _≤_}
+use Prim.Native.Nat.{ℕ}
 use native.Mathlib.Omega.{arith}
 use lib.ListN.{length, take, drop}
 use lib.IntN.{ℤ, pos}
@@ -13,19 +13,21 @@ use Rattle.distance.specs.Examples.{minus}
 use Rattle.distance.specs.Fix.{Fix, last-of}
 use Rattle.distance.specs.Distance.{deviation, allowance}
 use Rattle.distance.specs.Box.{Box, box-with}
+use Rattle.distance.specs.Tenfold.{tenfold-fix}
 use Rattle.distance.specs.Place.{own}
 use Rattle.distance.specs.Rounding.{half-up, with-sign-of, rounded}
 use Rattle.format.specs.Bytes.{number-at, bytes-of, signed, unsigned}
-use Rattle.format.specs.Format.{trail, never, mark-field, record-length, fixes, fix-at, each, fix-bytes, all-bytes, header-bytes, record-bytes}
+use Rattle.format.specs.Kinds.{Kind, trail, millimetre-trail}
+use Rattle.format.specs.Format.{kind-of, never, mark-field, record-length, fixes, fix-from, fix-at, each, fix-to, fix-bytes, all-bytes, header-bytes, record-bytes}
 use Rattle.record.specs.Checks.{first, sentence, some-outside, some-early, some-early-after, of-ends, read-refusal}
-use Rattle.record.specs.Answers.{Answer, gives, turns-away, answer}
+use Rattle.record.specs.Answers.{Answer, gives, turns-away, answer, SameAnswer}
 use Rattle.writing.specs.Writing.{write-refusal, written}
 use Rattle.thinning.specs.Thinning.{sooner, furthest, every, but-last, thin-span, thin, thinning}
 use Rattle.aging.specs.Aging.{by-tolerance, left-by, answered, new-mark, thinned-record}
 use Rattle.legs.specs.declared.Fraction.{Fraction}
 use Rattle.moment.specs.Moment.{Standing, on-leg, moment-from, at-moment, place-answer}
 use Rattle.legs.specs.Legs.{later-of, earlier-of, first-of, axis-times, leg-times, leg-first}
-use Rattle.crossing.specs.Crossing.{first-from, first-crossing, cross-answer}
+use Rattle.crossing.specs.Crossing.{first-from, first-crossing, cross-answer, SameCrossing}
 use Rattle.crossing.specs.Examples.{yes-at}
 
 -- ---- WHAT A ROW ASKS of a trail
@@ -36,9 +38,9 @@ pub data Question : Type 0 where
   place-at : (second thousandths : ℕ) → Question
   -- whether it crosses a box in a window
   cross : Box → (start end : ℕ) → Question
-  -- whether the writer takes it, and the reader
+  -- whether the writer takes it, and the reader under a mark
   write : Question
-  read : Question
+  read : (mark : ℕ) → Question
 
 -- ---- WHAT THE DEFINITIONS ANSWER
 -- What agings leave: the fixes and the mark that the bytes left say, and the count that the last of them answered.
@@ -52,14 +54,14 @@ Reply (age-at es) = Left
 Reply (place-at s m) = Standing
 Reply (cross box s e) = Option Fraction
 Reply write = Unit
-Reply read = Unit
+Reply (read m) = Unit
 
--- An output of the record's length, and the trail's record as the writer puts it down there.
-abbrev pub output : List Fix → List ℕ
-output l = each (λ k. 0) 0 (record-length trail (length l))
+-- An output of the record's length, and the trail's record as the writer of a kind puts it down there.
+abbrev pub output : Kind → List Fix → List ℕ
+output K l = each (λ k. 0) 0 (record-length K (length l))
 
-abbrev pub recorded : List Fix → List ℕ
-recorded l = written trail l (output l)
+abbrev pub recorded : Kind → List Fix → List ℕ
+recorded K l = written K l (output K l)
 
 -- Each aging gets the buffer as the one before it left it; the first that is turned away is the answer.
 abbrev pub unless-refused : Answer ℕ → (ℕ → Answer Left) → Answer Left
@@ -67,16 +69,16 @@ unless-refused (gives c) next = next c
 unless-refused (turns-away k) next = turns-away k
 
 abbrev pub aged-all : (b : List ℕ) (count : ℕ) (tolerances : List ℕ) → Answer Left
-aged-all b count [] = gives (record { kept = fixes trail b; count = count; mark = mark-field b })
+aged-all b count [] = gives (record { kept = fixes b; count = count; mark = mark-field b })
 aged-all b count (e ∷ es) = unless-refused (answered b (by-tolerance e)) (λ c. aged-all (left-by b (by-tolerance e)) c es)
 
 -- The reader is asked of the same bytes put down without the writer's checks, since some of these trails the writer turns away.
-abbrev pub reply : List Fix → (q : Question) → Answer (Reply q)
-reply l (age-at es) = aged-all (recorded l) 0 es
-reply l (place-at s m) = place-answer trail (recorded l) s m
-reply l (cross box s e) = cross-answer trail (recorded l) s e box
-reply l write = answer (write-refusal trail l (output l)) tt
-reply l read = answer (read-refusal trail (record-bytes trail never l)) tt
+abbrev pub reply : Kind → List Fix → (q : Question) → Answer (Reply q)
+reply K l (age-at es) = aged-all (recorded K l) 0 es
+reply K l (place-at s m) = place-answer (recorded K l) s m
+reply K l (cross box s e) = cross-answer (recorded K l) s e box
+reply K l write = answer (write-refusal K l (output K l)) tt
+reply K l (read m) = answer (read-refusal (record-bytes K m l)) tt
 
 -- ---- WHAT THE TABLE GIVES: the positions that are kept, and the count and the mark where it has them
 pub record Kept : Type 0 where
@@ -89,11 +91,18 @@ Entry (age-at es) = Kept
 Entry (place-at s m) = Standing
 Entry (cross box s e) = Option Fraction
 Entry write = Unit
-Entry read = Unit
+Entry (read m) = Unit
 
--- A row: the trail, what is asked, and what the table gives, or the number of the refusal.
+-- A row: the kind of its record, the trail in that kind's unit, what is asked, and what the table gives, or the number of the refusal.
 pub data WorkedRow : Type 0 where
-  row : List Fix → (q : Question) → Answer (Entry q) → WorkedRow
+  row-of : Kind → List Fix → (q : Question) → Answer (Entry q) → WorkedRow
+
+-- one of document 01, in centimetres, and one of document 02, item 8, in millimetres
+abbrev pub row : List Fix → (q : Question) → Answer (Entry q) → WorkedRow
+row = row-of trail
+
+abbrev pub millimetre-row : List Fix → (q : Question) → Answer (Entry q) → WorkedRow
+millimetre-row = row-of millimetre-trail
 
 -- ---- WHAT A ROW SAYS
 -- The fixes of a trail at these positions.
@@ -106,35 +115,15 @@ abbrev pub Is : ℕ → Option ℕ → Type 0
 Is n none = Unit
 Is n (some k) = n ≡ k
 
--- The told time f is the table's time g: "Its value is fixed; its form is free, with a denominator from 1 to 32,000."
-pub record SameTime (f g : Fraction) : Type 0 where
-  pub same-value : f .num * g .den ≡ g .num * f .den
-  pub at-least : 1 ≤ f .den
-  pub at-most : f .den ≤ 32000
-
--- Yes with the same time, or no.
-abbrev pub SameCrossing : Option Fraction → Option Fraction → Type 0
-SameCrossing none none = Unit
-SameCrossing (some f) (some g) = SameTime f g
-SameCrossing none (some g) = ⊥
-SameCrossing (some f) none = ⊥
-
-abbrev pub Agrees : List Fix → (q : Question) → Reply q → Entry q → Type 0
-Agrees l (age-at es) a g = (a .kept ≡ at-positions l (g .positions)) × Is (a .count) (g .count-given) × Is (a .mark) (g .mark-given)
-Agrees l (place-at s m) a g = a ≡ g
-Agrees l (cross box s e) a g = SameCrossing a g
-Agrees l write a g = Unit
-Agrees l read a g = Unit
-
--- Both give, and what they give agrees; or both are the same refusal.
-abbrev pub SameAnswer : {A B : Type 0} → (A → B → Type 0) → Answer A → Answer B → Type 0
-SameAnswer agrees (gives a) (gives g) = agrees a g
-SameAnswer agrees (turns-away k) (turns-away n) = k ≡ n
-SameAnswer agrees (gives a) (turns-away n) = ⊥
-SameAnswer agrees (turns-away k) (gives g) = ⊥
+abbrev pub Agrees : Kind → List Fix → (q : Question) → Reply q → Entry q → Type 0
+Agrees K l (age-at es) a g = (a .kept ≡ at-positions l (g .positions)) × Is (a .count) (g .count-given) × Is (a .mark) (g .mark-given)
+Agrees K l (place-at s m) a g = a ≡ g
+Agrees K l (cross box s e) a g = SameCrossing K a g
+Agrees K l write a g = Unit
+Agrees K l (read m) a g = Unit
 
 abbrev pub Holds : WorkedRow → Type 0
-Holds (row l q g) = SameAnswer (Agrees l q) (reply l q) g
+Holds (row-of K l q g) = SameAnswer (Agrees K l q) (reply K l q) g
 
 abbrev pub AllHold : List WorkedRow → Type 0
 AllHold [] = Unit
@@ -224,12 +213,12 @@ rows-below =
     ∷ row trail-c (age-at (32001 ∷ [])) (turns-away 10)
     -- "Span 65,535 passes, 65,536 is 9."
     ∷ row (span 65535) write nothing-refused
-    ∷ row (span 65535) read nothing-refused
+    ∷ row (span 65535) (read never) nothing-refused
     ∷ row (span 65536) write (turns-away 9)
-    ∷ row (span 65536) read (turns-away 9)
+    ∷ row (span 65536) (read never) (turns-away 9)
     -- "Equal times are 8."
     ∷ row (span 0) write (turns-away 8)
-    ∷ row (span 0) read (turns-away 8)
+    ∷ row (span 0) (read never) (turns-away 8)
     -- and of "The leg is the first whose end isn't earlier than the moment": at the second fix it is the leg that ends there
     ∷ row (trail-k ++ fix 30 0 0 ∷ []) (place-at 10 0) (stands-at (pos 50000) (minus 50000) (pos 10000) (pos 5) (minus 5))
     -- and of a moment whose thousandths have three different digits, 1.234: 5·1234 over 10,000
@@ -240,13 +229,53 @@ rows-below =
     ∷ row image-k (place-at 3 0) (stands-at (minus 15000) (pos 15000) (pos 10000) (minus 2) (pos 2))
     ∷ []
 
--- ---- both by computation, row by row
+-- ---- MILLIMETRES. Document 02, item 8: kind 2, by its own limits.
+abbrev pub tenfold : List Fix → List Fix
+tenfold l = map tenfold-fix l
+
+-- from one corner of the places there are to the other and back: the fix in the middle has Nx = 320,000·65,535 and Ny = −Nx, and Nx² + Ny² = 879,582,458,880,000,000,000,
+-- which is 47·2⁶⁴ + 12,585,487,415,651,074,048. At 60,000 the allowance is 15,461,410,410,000,000,000: above what one word would have left of that sum.
+abbrev pub corners : List Fix
+corners = record { t = 0; x = minus 160000; y = pos 160000 } ∷ record { t = 1; x = pos 160000; y = minus 160000 } ∷ record { t = 65535; x = minus 160000; y = pos 160000 } ∷ []
+
+-- of its inner fixes the second is the furthest: (160,000·65,535)² = 25,599,218,755·2³² + 4,125,163,520, and of the first (159,983·65,535)² = 25,593,779,210·2³² + 4,148,952,865,
+-- which has the greater low word. Split at the first, the second would go.
+abbrev pub words-apart : List Fix
+words-apart = fix 0 0 0 ∷ fix 1 159983 0 ∷ fix 2 160000 0 ∷ fix 65535 0 0 ∷ []
+
+abbrev pub millimetre-rows : List WorkedRow
+millimetre-rows =
+    -- c, d, h, i and j times ten, at ten times the tolerance: the same positions, counts and marks times ten
+    millimetre-row (tenfold trail-c) (age-at (500 ∷ [])) (keeps (0 ∷ 2 ∷ []) (some 1) none)
+    ∷ millimetre-row (tenfold trail-c) (age-at (499 ∷ [])) (keeps (0 ∷ 1 ∷ 2 ∷ []) (some 1) none)
+    ∷ millimetre-row (tenfold trail-h) (age-at (120 ∷ [])) (keeps (0 ∷ 1 ∷ 3 ∷ []) (some 3) none)
+    ∷ millimetre-row (tenfold trail-h) (age-at (250 ∷ 120 ∷ [])) (keeps (0 ∷ 3 ∷ []) none (some 250))
+    ∷ millimetre-row (tenfold trail-h) (age-at (120 ∷ 250 ∷ [])) (keeps (0 ∷ 3 ∷ []) none (some 250))
+    -- k and l: the place times ten over the same denominator, the same time
+    ∷ millimetre-row (tenfold trail-k) (place-at 1 0) (stands-at (pos 50000) (minus 50000) (pos 10000) (pos 5) (minus 5))
+    ∷ millimetre-row (tenfold trail-l) (cross (box-with (pos 330) (pos 400) (minus 50) (pos 50)) 0 10) (yes-at 33 10)
+    -- sums of two words
+    ∷ millimetre-row corners (age-at (60000 ∷ [])) (keeps (0 ∷ 1 ∷ 2 ∷ []) (some 1) (some 60000))
+    ∷ millimetre-row words-apart (age-at (60000 ∷ [])) (keeps (0 ∷ 1 ∷ 2 ∷ 3 ∷ []) (some 3) none)
+    -- "tolerance and mark up to 60,000 or never": 60,000 passes, 60,001 is 10; a mark of 60,000 passes, 60,001 is 6
+    ∷ millimetre-row (tenfold trail-c) (age-at (60000 ∷ [])) (keeps (0 ∷ 2 ∷ []) none (some 60000))
+    ∷ millimetre-row (tenfold trail-c) (age-at (60001 ∷ [])) (turns-away 10)
+    ∷ millimetre-row trail-c (read 60000) nothing-refused
+    ∷ millimetre-row trail-c (read 60001) (turns-away 6)
+    -- "places −160,000 to 160,000"
+    ∷ millimetre-row (record { t = 0; x = pos 160000; y = minus 160000 } ∷ []) write nothing-refused
+    ∷ millimetre-row (record { t = 0; x = pos 160001; y = pos 0 } ∷ []) write (turns-away 7)
+    ∷ millimetre-row (record { t = 0; x = pos 160000; y = minus 160000 } ∷ []) (read never) nothing-refused
+    ∷ millimetre-row (record { t = 0; x = pos 0; y = minus 160001 } ∷ []) (read never) (turns-away 7)
+    ∷ []
+
+-- ---- all by computation, row by row
 infixr 20 _and_
 _and_ : {A B : Type 0} → A → B → A × B
 a and b = (a, b)
 
 pub worked : AllHold rows
-unfolding thinned-record new-mark thinning thin thin-span furthest sooner every but-last last-of deviation allowance first sentence some-outside some-early-after some-early of-ends fix-at each number-at signed unsigned bytes-of fix-bytes all-bytes header-bytes record-bytes at-moment moment-from on-leg own rounded with-sign-of half-up first-crossing first-from leg-first leg-times axis-times first-of later-of earlier-of
+unfolding thinned-record new-mark thinning thin thin-span furthest sooner every but-last last-of deviation allowance first sentence some-outside some-early-after some-early of-ends kind-of fix-from fix-at each number-at signed unsigned bytes-of fix-to fix-bytes all-bytes header-bytes record-bytes at-moment moment-from on-leg own rounded with-sign-of half-up first-crossing first-from leg-first leg-times axis-times first-of later-of earlier-of
 worked =
     (refl, refl, tt)
     and (refl, refl, tt)
@@ -263,7 +292,7 @@ worked =
     and tt
 
 pub worked-below : AllHold rows-below
-unfolding thinned-record new-mark thinning thin thin-span furthest sooner every but-last last-of deviation allowance first sentence some-outside some-early-after some-early of-ends fix-at each number-at signed unsigned bytes-of fix-bytes all-bytes header-bytes record-bytes at-moment moment-from on-leg own rounded with-sign-of half-up first-crossing first-from leg-first leg-times axis-times first-of later-of earlier-of
+unfolding thinned-record new-mark thinning thin thin-span furthest sooner every but-last last-of deviation allowance first sentence some-outside some-early-after some-early of-ends kind-of fix-from fix-at each number-at signed unsigned bytes-of fix-to fix-bytes all-bytes header-bytes record-bytes at-moment moment-from on-leg own rounded with-sign-of half-up first-crossing first-from leg-first leg-times axis-times first-of later-of earlier-of
 worked-below =
     record { same-value = refl; at-least = omega arith; at-most = omega arith }
     and tt
@@ -279,5 +308,27 @@ worked-below =
     and refl
     and refl
     and refl
+    and refl
+    and tt
+
+pub worked-in-millimetres : AllHold millimetre-rows
+unfolding thinned-record new-mark thinning thin thin-span furthest sooner every but-last last-of deviation allowance first sentence some-outside some-early-after some-early of-ends kind-of fix-from fix-at each number-at signed unsigned bytes-of fix-to fix-bytes all-bytes header-bytes record-bytes at-moment moment-from on-leg own rounded with-sign-of half-up first-crossing first-from leg-first leg-times axis-times first-of later-of earlier-of
+worked-in-millimetres =
+    (refl, refl, tt)
+    and (refl, refl, tt)
+    and (refl, refl, tt)
+    and (refl, tt, refl)
+    and (refl, tt, refl)
+    and refl
+    and record { same-value = refl; at-least = omega arith; at-most = omega arith }
+    and (refl, refl, refl)
+    and (refl, refl, tt)
+    and (refl, tt, refl)
+    and refl
+    and tt
+    and refl
+    and tt
+    and refl
+    and tt
     and refl
     and tt

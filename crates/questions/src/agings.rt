@@ -7,9 +7,7 @@ use crossing::Window;
 use distance::Tolerance;
 use record::Checked;
 ghost use mathlib.Core.Path.{_≡_};
-ghost use Prim.Native.Nat.{_≤_};
-ghost use lib.ListN.{length};
-ghost use Rattle.format.specs.Format.{trail, never, mark-field};
+ghost use Rattle.format.specs.Format.{never, mark-field};
 ghost use Rattle.record.specs.Checks.{IsAccepted};
 ghost use Rattle.aging.specs.Aging.{left-by, answered};
 ghost use Rattle.aging.specs.Answers.{counted};
@@ -72,7 +70,7 @@ pub fn call_all(b: &mut [u8], calls: &[u32]) -> Ran
 // an accepted record marked never, the claim holds: what is left is Douglas-Peucker's of the original at the greatest tolerance applied, and the answer is
 // true of the original within it.
 pub fn crosses_after(b: &mut [u8], calls: &[u32], w: Window, e: Edges) -> Crossed
-    ensures { λ r. ⌜ (crossed r ≡ after-answer (now (b .entry)) (calls-of (now (calls .entry))) (w .start .0) (w .end .0) (boxOf e)) × (now (b .exit) ≡ left-after (now (b .entry)) (calls-of (now (calls .entry))) (w .start .0) (w .end .0) (boxOf e)) × (IsAccepted trail (now (b .entry)) → mark-field (now (b .entry)) ≡ never → Claim (now (b .entry)) (calls-of (now (calls .entry)))) ⌝ }
+    ensures { λ r. ⌜ (crossed r ≡ after-answer (now (b .entry)) (calls-of (now (calls .entry))) (w .start .0) (w .end .0) (boxOf e)) × (now (b .exit) ≡ left-after (now (b .entry)) (calls-of (now (calls .entry))) (w .start .0) (w .end .0) (boxOf e)) × (IsAccepted (now (b .entry)) → mark-field (now (b .entry)) ≡ never → Claim (now (b .entry)) (calls-of (now (calls .entry)))) ⌝ }
 {
     let v = crossing::cross_says(b, w, e);
     match v {

@@ -1,10 +1,14 @@
 -- What the enums of the code say, as the paper's numbers and values.
+use mathlib.Core.Path.{_≡_}
 use mathlib.Core.Option.{Option, some, none}
 use Prim.Native.Nat.{ℕ}
 use Rattle.distance.specs.Fix.{Fix, fixOf}
 use Rattle.record.specs.declared.Checked.{Checked}
 use Rattle.record.specs.declared.AllRead.{AllRead}
 use Rattle.record.specs.declared.AllRead.the-variants as All
+use Rattle.record.specs.declared.InUnit.{InUnit}
+use Rattle.record.specs.declared.InUnit.the-variants as Units
+use Rattle.format.specs.Kinds.{units}
 use Rattle.record.specs.declared.Step.{Step}
 use Rattle.record.specs.declared.Step.the-variants.{Found, NoneLeft}
 use Rattle.record.specs.declared.Checked.the-variants.{Accepted, Refused}
@@ -17,6 +21,13 @@ pub data Answer (A : Type 0) : Type 0 where
 abbrev pub answer : {A : Type 0} → Option ℕ → A → Answer A
 answer none a = gives a
 answer (some k) a = turns-away k
+
+-- Two answers agree: both give, and what they give agrees; or both are the same refusal.
+abbrev pub SameAnswer : {A B : Type 0} → (A → B → Type 0) → Answer A → Answer B → Type 0
+SameAnswer agrees (gives a) (gives g) = agrees a g
+SameAnswer agrees (turns-away k) (turns-away n) = k ≡ n
+SameAnswer agrees (gives a) (turns-away n) = ⊥
+SameAnswer agrees (turns-away k) (gives g) = ⊥
 
 -- A lent buffer afterwards: as it was if there is a refusal, "with all lent bytes untouched".
 abbrev pub unless : {A : Type 0} → Option ℕ → (before afterwards : A) → A
@@ -37,3 +48,8 @@ found NoneLeft = none
 abbrev pub read-count : AllRead → Answer ℕ
 read-count (All.Count n) = gives n
 read-count (All.Refused k) = turns-away k
+
+-- The unit of the fixes that a reader yields, or the refusal.
+abbrev pub unit-said : InUnit → Answer ℕ
+unit-said (Units.In u) = gives (units u)
+unit-said (Units.Refused k) = turns-away k

@@ -12,7 +12,8 @@ use lib.Signed.{ltZ}
 use Rattle.distance.specs.Fix.{Fix, last-of}
 use Rattle.distance.specs.Distance.{seconds}
 use Rattle.distance.specs.Box.{Box}
-use Rattle.format.specs.Format.{Kind, never, length-field, kind-field, mark-field, count-field, record-length, fixes}
+use Rattle.format.specs.Kinds.{Kind, kinds, coded}
+use Rattle.format.specs.Format.{never, length-field, kind-field, mark-field, count-field, kind-of, record-length, fixes}
 
 -- ---- what a call is handed beside the bytes. A call fills in what it takes; no check that it makes looks at the rest (`reading-alone` and the laws beside it
 -- in Laws/First.antt).
@@ -41,7 +42,7 @@ pub record Asked : Type 0 where
   pub given : Given
 
 -- ---- the sentences' parts
--- "outside −16,000 to 16,000"
+-- "outside −16,000 to 16,000", or another kind's limits
 abbrev pub outside : (limit : ℕ) → ℤ → Bool
 outside limit z = ltZ z (negℤ (pos limit)) || ltZ (pos limit) z
 
@@ -114,12 +115,12 @@ number bad-window = 13
 number bad-box = 14
 number short-output = 15
 
--- ---- the sentences, each as document 01 has it
+-- ---- the sentences, each as document 01 has it for its kind, 1. Document 02, item 8: "Checks 2, 4, 6, 7, 10, 14, 15 [..] read the record's own limits."
 unfoldable pub sentence : Kind → Asked → Check → Bool
 -- 1. "The lent bytes are fewer than 10."
 sentence K a few-bytes = ltb (a .lent) 10
--- 2. "The kind isn't 1."
-sentence K a other-kind = not (eqb (a .kind) (K .code))
+-- 2. "The kind isn't 1.", or one of those that document 02 adds
+sentence K a other-kind = not (coded kinds (a .kind))
 -- 3. "The count is 0 or above 4,096."
 sentence K a bad-count = eqb (a .count) 0 || ltb 4096 (a .count)
 -- 4. "The length field isn't 10 + 8 times the count."
@@ -213,14 +214,14 @@ abbrev pub refusal : Kind → Operation → Asked → Option ℕ
 refusal K o a = first (sentence K a) (checks o)
 
 -- ---- what is asked of lent bytes, and of a list of fixes that is to be written
-abbrev pub asked-of : Kind → List ℕ → Given → Asked
-asked-of K b g = record {
+abbrev pub asked-of : List ℕ → Given → Asked
+asked-of b g = record {
   lent = length b;
   length-says = length-field b;
   kind = kind-field b;
   mark = mark-field b;
   count = count-field b;
-  trail-fixes = fixes K b;
+  trail-fixes = fixes b;
   given = g;
 }
 
@@ -228,13 +229,17 @@ asked-of K b g = record {
 abbrev pub nothing : Given
 nothing = record { tolerance = 0; second = 0; thousandths = 0; start = 0; end = 0; box = record { x-low = pos 0; x-high = pos 0; y-low = pos 0; y-high = pos 0 }; output = 0 }
 
-abbrev pub read-refusal : Kind → List ℕ → Option ℕ
-read-refusal K b = refusal K reading (asked-of K b nothing)
+-- The refusal of an operation over lent bytes: by the limits of their own kind.
+abbrev pub refusal-of : Operation → List ℕ → Given → Option ℕ
+refusal-of o b g = refusal (kind-of b) o (asked-of b g)
+
+abbrev pub read-refusal : List ℕ → Option ℕ
+read-refusal b = refusal-of reading b nothing
 
 -- What checks 1 to 6 say: they look at the head alone, and at how many bytes are lent.
-abbrev pub head-refusal : Kind → List ℕ → Option ℕ
-head-refusal K b = first (sentence K (asked-of K b nothing)) head-checks
+abbrev pub head-refusal : List ℕ → Option ℕ
+head-refusal b = first (sentence (kind-of b) (asked-of b nothing)) head-checks
 
 -- "A record is accepted if none of the reader's checks turns it away."
-pub record IsAccepted (K : Kind) (b : List ℕ) : Type 0 where
-  pub accepted : read-refusal K b ≡ none
+pub record IsAccepted (b : List ℕ) : Type 0 where
+  pub accepted : read-refusal b ≡ none

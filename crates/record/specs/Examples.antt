@@ -4,6 +4,7 @@ use mathlib.Core.Path.{_≡_, refl}
 use mathlib.Core.List.{List, [], _∷_}
 use mathlib.Core.Option.{Option, some, none}
 use Prim.Native.Nat.{ℕ}
+use native.Mathlib.Omega.{arith}
 use lib.ListN.{take}
 use lib.IntN.{ℤ, pos}
 use Rattle.distance.specs.Examples.{Computes, minus}
@@ -11,15 +12,17 @@ use Rattle.distance.specs.Fix.{last-of}
 use Rattle.distance.specs.Clock.{Stays}
 use Rattle.distance.specs.Laws.All.{all-none, all-more}
 use Rattle.distance.specs.Laws.Clock.{computed-stays}
-use Rattle.format.specs.Bytes.{number-at, signed}
-use Rattle.format.specs.Format.{trail, fix-at, each}
-use Rattle.format.specs.Examples.{document-bytes}
+use Rattle.format.specs.Bytes.{number-at, bytes-of, signed, unsigned}
+use Rattle.format.specs.Format.{kind-of, fix-from, fix-at, each, fix-to, fix-bytes, all-bytes, header-bytes, record-bytes}
+use Rattle.format.specs.Examples.{document-bytes, millimetre-bytes}
 use Rattle.format.specs.Laws.RoundTrip.{AreBytes, all-below, computed-bytes}
 use Rattle.record.specs.Checks.{first, sentence, some-outside, some-early-after, some-early, of-ends, read-refusal}
 use Rattle.record.specs.Answers.{gives, turns-away}
 use Rattle.record.specs.Moved.{Movable}
+use Rattle.record.specs.Tenfold.{tenfold-mark, tenfold-record, Tenfold}
+use Rattle.record.specs.Laws.Tenfold.{tenfold-never, tenfold-marked}
 use Rattle.record.specs.Laws.First.{some-none}
-use Rattle.record.specs.Reading.{filled, stands, yields, moves, begins, told-refusal, read-answer, times-read, xs-read, ys-read}
+use Rattle.record.specs.Reading.{filled, stands, yields, moves, begins, told-refusal, unit-answer, read-answer, times-read, xs-read, ys-read}
 
 -- Document 01's 18 bytes with x = 16,001, and with the mark 32,001.
 abbrev pub misplaced-bytes : List ℕ
@@ -39,9 +42,10 @@ read-rows =
     ∷ ([], some 1)
     ∷ (18 ∷ 0 ∷ 0 ∷ 0 ∷ 1 ∷ 0 ∷ 255 ∷ 255 ∷ 1 ∷ [], some 1)
     ∷ (18 ∷ 0 ∷ 0 ∷ 0 ∷ 1 ∷ 0 ∷ 255 ∷ 255 ∷ 1 ∷ 0 ∷ [], some 5)
-    -- 2. "The kind isn't 1.": 0, 2, and 257, whose lower byte is 1
+    -- 2. "The kind isn't 1." (nor 2): 0, 3, and 257 and 258, whose lower bytes are 1 and 2
     ∷ (18 ∷ 0 ∷ 0 ∷ 0 ∷ 0 ∷ 0 ∷ 255 ∷ 255 ∷ 1 ∷ 0 ∷ 232 ∷ 3 ∷ 0 ∷ 0 ∷ 255 ∷ 255 ∷ 2 ∷ 0 ∷ [], some 2)
-    ∷ (18 ∷ 0 ∷ 0 ∷ 0 ∷ 2 ∷ 0 ∷ 255 ∷ 255 ∷ 1 ∷ 0 ∷ 232 ∷ 3 ∷ 0 ∷ 0 ∷ 255 ∷ 255 ∷ 2 ∷ 0 ∷ [], some 2)
+    ∷ (18 ∷ 0 ∷ 0 ∷ 0 ∷ 3 ∷ 0 ∷ 255 ∷ 255 ∷ 1 ∷ 0 ∷ 232 ∷ 3 ∷ 0 ∷ 0 ∷ 255 ∷ 255 ∷ 2 ∷ 0 ∷ [], some 2)
+    ∷ (18 ∷ 0 ∷ 0 ∷ 0 ∷ 2 ∷ 1 ∷ 255 ∷ 255 ∷ 1 ∷ 0 ∷ 232 ∷ 3 ∷ 0 ∷ 0 ∷ 255 ∷ 255 ∷ 2 ∷ 0 ∷ [], some 2)
     ∷ (18 ∷ 0 ∷ 0 ∷ 0 ∷ 1 ∷ 1 ∷ 255 ∷ 255 ∷ 1 ∷ 0 ∷ 232 ∷ 3 ∷ 0 ∷ 0 ∷ 255 ∷ 255 ∷ 2 ∷ 0 ∷ [], some 2)
     -- 3. "The count is 0 or above 4,096.": 0, and 4,097 with the length that goes with it; 4,096 is not, and such a head alone is cut off
     ∷ (10 ∷ 0 ∷ 0 ∷ 0 ∷ 1 ∷ 0 ∷ 255 ∷ 255 ∷ 0 ∷ 0 ∷ [], some 3)
@@ -73,16 +77,30 @@ read-rows =
     ∷ (26 ∷ 0 ∷ 0 ∷ 0 ∷ 1 ∷ 0 ∷ 255 ∷ 255 ∷ 2 ∷ 0 ∷ 5 ∷ 0 ∷ 0 ∷ 0 ∷ 0 ∷ 0 ∷ 0 ∷ 0 ∷ 4 ∷ 0 ∷ 1 ∷ 0 ∷ 0 ∷ 0 ∷ 0 ∷ 0 ∷ [], none)
     ∷ (26 ∷ 0 ∷ 0 ∷ 0 ∷ 1 ∷ 0 ∷ 255 ∷ 255 ∷ 2 ∷ 0 ∷ 5 ∷ 0 ∷ 0 ∷ 0 ∷ 0 ∷ 0 ∷ 0 ∷ 0 ∷ 5 ∷ 0 ∷ 1 ∷ 0 ∷ 0 ∷ 0 ∷ 0 ∷ 0 ∷ [], some 9)
     -- the first that holds is said: 2 and 3; 5 and 6; 6 and 7; 7 and 8; 8 and 9
-    ∷ (10 ∷ 0 ∷ 0 ∷ 0 ∷ 2 ∷ 0 ∷ 255 ∷ 255 ∷ 0 ∷ 0 ∷ [], some 2)
+    ∷ (10 ∷ 0 ∷ 0 ∷ 0 ∷ 3 ∷ 0 ∷ 255 ∷ 255 ∷ 0 ∷ 0 ∷ [], some 2)
     ∷ (18 ∷ 0 ∷ 0 ∷ 0 ∷ 1 ∷ 0 ∷ 1 ∷ 125 ∷ 1 ∷ 0 ∷ [], some 5)
     ∷ (18 ∷ 0 ∷ 0 ∷ 0 ∷ 1 ∷ 0 ∷ 1 ∷ 125 ∷ 1 ∷ 0 ∷ 232 ∷ 3 ∷ 0 ∷ 0 ∷ 129 ∷ 62 ∷ 2 ∷ 0 ∷ [], some 6)
     ∷ (26 ∷ 0 ∷ 0 ∷ 0 ∷ 1 ∷ 0 ∷ 255 ∷ 255 ∷ 2 ∷ 0 ∷ 5 ∷ 0 ∷ 0 ∷ 0 ∷ 0 ∷ 0 ∷ 0 ∷ 0 ∷ 5 ∷ 0 ∷ 0 ∷ 0 ∷ 129 ∷ 62 ∷ 0 ∷ 0 ∷ [], some 7)
     ∷ (34 ∷ 0 ∷ 0 ∷ 0 ∷ 1 ∷ 0 ∷ 255 ∷ 255 ∷ 3 ∷ 0 ∷ 5 ∷ 0 ∷ 0 ∷ 0 ∷ 0 ∷ 0 ∷ 0 ∷ 0 ∷ 112 ∷ 17 ∷ 1 ∷ 0 ∷ 0 ∷ 0 ∷ 0 ∷ 0 ∷ 111 ∷ 17 ∷ 1 ∷ 0 ∷ 0 ∷ 0 ∷ 0 ∷ 0 ∷ [], some 8)
+    -- kind 2, by its own limits: 4. "length 10 + 12n": 18 is not one, 22 is
+    ∷ (18 ∷ 0 ∷ 0 ∷ 0 ∷ 2 ∷ 0 ∷ 255 ∷ 255 ∷ 1 ∷ 0 ∷ 232 ∷ 3 ∷ 0 ∷ 0 ∷ 255 ∷ 255 ∷ 2 ∷ 0 ∷ [], some 4)
+    ∷ (22 ∷ 0 ∷ 0 ∷ 0 ∷ 2 ∷ 0 ∷ 255 ∷ 255 ∷ 1 ∷ 0 ∷ 232 ∷ 3 ∷ 0 ∷ 0 ∷ 255 ∷ 255 ∷ 255 ∷ 255 ∷ 2 ∷ 0 ∷ 0 ∷ 0 ∷ [], none)
+    -- 4,096 fixes are 49,162 bytes; such a head alone is cut off
+    ∷ (10 ∷ 192 ∷ 0 ∷ 0 ∷ 2 ∷ 0 ∷ 255 ∷ 255 ∷ 0 ∷ 16 ∷ [], some 5)
+    -- 6. "mark up to 60,000 or never": 32,001 and 60,000 are, 60,001 and 65,534 are not
+    ∷ (22 ∷ 0 ∷ 0 ∷ 0 ∷ 2 ∷ 0 ∷ 1 ∷ 125 ∷ 1 ∷ 0 ∷ 232 ∷ 3 ∷ 0 ∷ 0 ∷ 255 ∷ 255 ∷ 255 ∷ 255 ∷ 2 ∷ 0 ∷ 0 ∷ 0 ∷ [], none)
+    ∷ (22 ∷ 0 ∷ 0 ∷ 0 ∷ 2 ∷ 0 ∷ 96 ∷ 234 ∷ 1 ∷ 0 ∷ 232 ∷ 3 ∷ 0 ∷ 0 ∷ 255 ∷ 255 ∷ 255 ∷ 255 ∷ 2 ∷ 0 ∷ 0 ∷ 0 ∷ [], none)
+    ∷ (22 ∷ 0 ∷ 0 ∷ 0 ∷ 2 ∷ 0 ∷ 97 ∷ 234 ∷ 1 ∷ 0 ∷ 232 ∷ 3 ∷ 0 ∷ 0 ∷ 255 ∷ 255 ∷ 255 ∷ 255 ∷ 2 ∷ 0 ∷ 0 ∷ 0 ∷ [], some 6)
+    ∷ (22 ∷ 0 ∷ 0 ∷ 0 ∷ 2 ∷ 0 ∷ 254 ∷ 255 ∷ 1 ∷ 0 ∷ 232 ∷ 3 ∷ 0 ∷ 0 ∷ 255 ∷ 255 ∷ 255 ∷ 255 ∷ 2 ∷ 0 ∷ 0 ∷ 0 ∷ [], some 6)
+    -- 7. "places −160,000 to 160,000": both limits, and 160,001 of x and −160,001 of y
+    ∷ (millimetre-bytes, none)
+    ∷ (22 ∷ 0 ∷ 0 ∷ 0 ∷ 2 ∷ 0 ∷ 255 ∷ 255 ∷ 1 ∷ 0 ∷ 232 ∷ 3 ∷ 0 ∷ 0 ∷ 1 ∷ 113 ∷ 2 ∷ 0 ∷ 2 ∷ 0 ∷ 0 ∷ 0 ∷ [], some 7)
+    ∷ (22 ∷ 0 ∷ 0 ∷ 0 ∷ 2 ∷ 0 ∷ 255 ∷ 255 ∷ 1 ∷ 0 ∷ 232 ∷ 3 ∷ 0 ∷ 0 ∷ 2 ∷ 0 ∷ 0 ∷ 0 ∷ 255 ∷ 142 ∷ 253 ∷ 255 ∷ [], some 7)
     ∷ []
 
 -- All rows in one statement.
-pub reader-says : Computes (read-refusal trail) read-rows
-unfolding first sentence some-outside some-early-after some-early last-of of-ends fix-at each number-at signed
+pub reader-says : Computes (read-refusal) read-rows
+unfolding kind-of first sentence some-outside some-early-after some-early last-of of-ends fix-from fix-at each number-at signed
 reader-says = refl
 
 -- What an operation that makes the reader's checks too has of the rows that the reader refuses: `f` of the bytes and the number.
@@ -92,18 +110,23 @@ on-refused f ((b, none) ∷ rows) = on-refused f rows
 on-refused f ((b, some k) ∷ rows) = f b k ∷ on-refused f rows
 
 -- ---- a reader over document 01's 18 bytes yields "fix 1000 -1 2", and then none
-pub document-yields : yields trail document-bytes 0 ∷ yields trail document-bytes 1 ∷ [] ≡ some (record { t = 1000; x = minus 1; y = pos 2 }) ∷ none ∷ []
-unfolding yields stands fix-at number-at signed
+pub document-yields : yields document-bytes 0 ∷ yields document-bytes 1 ∷ [] ≡ some (record { t = 1000; x = minus 1; y = pos 2 }) ∷ none ∷ []
+unfolding kind-of yields stands fix-from fix-at number-at signed
 document-yields = refl
 
 -- .. it begins on fix 0, moves to 1 and stays there; over the first 17 of these bytes it begins past every fix, says 5 and yields none
-pub document-moves : begins trail document-bytes ∷ moves trail document-bytes 0 ∷ moves trail document-bytes 1 ∷ [] ≡ 0 ∷ 1 ∷ 1 ∷ []
-unfolding first sentence some-outside some-early-after some-early last-of of-ends fix-at each number-at signed moves stands
+pub document-moves : begins document-bytes ∷ moves document-bytes 0 ∷ moves document-bytes 1 ∷ [] ≡ 0 ∷ 1 ∷ 1 ∷ []
+unfolding kind-of first sentence some-outside some-early-after some-early last-of of-ends fix-from fix-at each number-at signed moves stands
 document-moves = refl
 
-pub refused-reader : (begins trail (take 17 document-bytes) ≡ 65536) × (told-refusal trail (take 17 document-bytes) 65536 ≡ some 5) × (yields trail (take 17 document-bytes) 65536 ≡ none)
-unfolding first sentence number-at yields stands told-refusal
+pub refused-reader : (begins (take 17 document-bytes) ≡ 65536) × (told-refusal (take 17 document-bytes) 65536 ≡ some 5) × (yields (take 17 document-bytes) 65536 ≡ none)
+unfolding kind-of first sentence number-at yields stands told-refusal
 refused-reader = (refl, refl, refl)
+
+-- in which unit it yields them: so many make a centimetre
+pub units-told : unit-answer document-bytes ∷ unit-answer millimetre-bytes ∷ unit-answer (take 17 document-bytes) ∷ [] ≡ gives 1 ∷ gives 10 ∷ turns-away 5 ∷ []
+unfolding kind-of first sentence some-outside some-early-after some-early last-of of-ends fix-from fix-at each number-at signed
+units-told = refl
 
 -- ---- all fixes at once: (5, 7, −8) and (6, −9, 10), into columns of no, one and three places; and of the same bytes less one nothing is read
 abbrev pub lent-two : List ℕ
@@ -112,33 +135,34 @@ lent-two = 26 ∷ 0 ∷ 0 ∷ 0 ∷ 1 ∷ 0 ∷ 255 ∷ 255 ∷ 2 ∷ 0 ∷ 5 �
 abbrev pub lent-short : List ℕ
 lent-short = take 25 lent-two
 
-pub two-read : (read-answer trail lent-two ≡ gives 2)
-    × (times-read trail lent-two [] ≡ [])
-    × (xs-read trail lent-two (pos 1 ∷ []) ≡ pos 7 ∷ [])
-    × (ys-read trail lent-two (pos 1 ∷ pos 2 ∷ pos 3 ∷ []) ≡ minus 8 ∷ pos 10 ∷ pos 3 ∷ [])
-unfolding first sentence some-outside some-early-after some-early last-of of-ends fix-at each number-at signed filled
+pub two-read : (read-answer lent-two ≡ gives 2)
+    × (times-read lent-two [] ≡ [])
+    × (xs-read lent-two (pos 1 ∷ []) ≡ pos 7 ∷ [])
+    × (ys-read lent-two (pos 1 ∷ pos 2 ∷ pos 3 ∷ []) ≡ minus 8 ∷ pos 10 ∷ pos 3 ∷ [])
+unfolding kind-of first sentence some-outside some-early-after some-early last-of of-ends fix-from fix-at each number-at signed filled
 two-read = (refl, refl, refl, refl)
 
-pub none-read : (read-answer trail lent-short ≡ turns-away 5)
-    × (times-read trail lent-short (1 ∷ 2 ∷ []) ≡ 1 ∷ 2 ∷ [])
-    × (xs-read trail lent-short (pos 1 ∷ pos 2 ∷ []) ≡ pos 1 ∷ pos 2 ∷ [])
-    × (ys-read trail lent-short (pos 1 ∷ pos 2 ∷ []) ≡ pos 1 ∷ pos 2 ∷ [])
-unfolding first sentence some-outside some-early-after some-early last-of of-ends fix-at each number-at signed filled
+pub none-read : (read-answer lent-short ≡ turns-away 5)
+    × (times-read lent-short (1 ∷ 2 ∷ []) ≡ 1 ∷ 2 ∷ [])
+    × (xs-read lent-short (pos 1 ∷ pos 2 ∷ []) ≡ pos 1 ∷ pos 2 ∷ [])
+    × (ys-read lent-short (pos 1 ∷ pos 2 ∷ []) ≡ pos 1 ∷ pos 2 ∷ [])
+unfolding kind-of first sentence some-outside some-early-after some-early last-of of-ends fix-from fix-at each number-at signed filled
 none-read = (refl, refl, refl, refl)
 
 -- ---- BUFFERS WHOSE CLOCK IS MOVED, with all that the laws of it ask, so that nothing they ask is empty: document 01's 18 bytes, their fix moved to the last second
--- of 32 bits and to the first; the same with x = 16,001, which 7 turns away; and with the mark 32,001, which 6 turns away, so that its time may leave 32 bits.
+-- of 32 bits and to the first; the same with x = 16,001, which 7 turns away; and with the mark 32,001, which 6 turns away, so that its time may leave 32 bits. Last a record of kind 2 with fixes at 0 and 7, whose latest
+-- becomes the last second.
 pub record MovableRow : Type 0 where
   pub by : ℤ
   pub buffer : List ℕ
   pub bytes : AreBytes buffer
-  pub movable : Movable trail by buffer
+  pub movable : Movable by buffer
   -- a second that is asked
   pub asked : ℕ
   pub asked-stays : Stays by asked
 
 pub movable-rows : List MovableRow
-unfolding all-below first sentence fix-at each number-at
+unfolding kind-of all-below first sentence fix-from fix-at each number-at
 movable-rows =
     record {
       by = pos 4294966295;
@@ -172,4 +196,35 @@ movable-rows =
       asked = 0;
       asked-stays = computed-stays (pos 4294967295) 0 tt tt;
     }
+    ∷ record {
+      by = pos 4294967288;
+      buffer = millimetre-bytes;
+      bytes = computed-bytes millimetre-bytes refl;
+      movable = record { all-stay = (λ h. all-more (computed-stays (pos 4294967288) 0 tt tt) (all-more (computed-stays (pos 4294967288) 7 tt tt) all-none)) };
+      asked = 3;
+      asked-stays = computed-stays (pos 4294967288) 3 tt tt;
+    }
     ∷ []
+
+-- ---- CENTIMETRES IN MILLIMETRES: document 01's fix, (1000, −1, 2), under a mark of these two bytes, and (1000, −10, 20). A mark of 6,000 becomes 60,000, `never` stays,
+-- and what stands behind the record is left out.
+abbrev pub centimetre-record : (low high : ℕ) → List ℕ
+centimetre-record low high = 18 ∷ 0 ∷ 0 ∷ 0 ∷ 1 ∷ 0 ∷ low ∷ high ∷ 1 ∷ 0 ∷ 232 ∷ 3 ∷ 0 ∷ 0 ∷ 255 ∷ 255 ∷ 2 ∷ 0 ∷ 7 ∷ 9 ∷ []
+
+abbrev pub millimetre-record : (low high : ℕ) → List ℕ
+millimetre-record low high = 22 ∷ 0 ∷ 0 ∷ 0 ∷ 2 ∷ 0 ∷ low ∷ high ∷ 1 ∷ 0 ∷ 232 ∷ 3 ∷ 0 ∷ 0 ∷ 246 ∷ 255 ∷ 255 ∷ 255 ∷ 20 ∷ 0 ∷ 0 ∷ 0 ∷ []
+
+pub tenfold-records-computed : Computes tenfold-record ((centimetre-record 255 255, millimetre-record 255 255) ∷ (centimetre-record 0 0, millimetre-record 0 0) ∷ (centimetre-record 112 23, millimetre-record 96 234) ∷ [])
+unfolding tenfold-record tenfold-mark kind-of fix-from fix-at each number-at signed unsigned bytes-of fix-to fix-bytes all-bytes header-bytes record-bytes
+tenfold-records-computed = refl
+
+-- the law of it, of each of the three
+pub tenfold-rows : Tenfold (centimetre-record 255 255) (tenfold-record (centimetre-record 255 255))
+    × Tenfold (centimetre-record 0 0) (tenfold-record (centimetre-record 0 0))
+    × Tenfold (centimetre-record 112 23) (tenfold-record (centimetre-record 112 23))
+unfolding kind-of all-below first sentence some-outside some-early-after some-early last-of of-ends fix-from fix-at each number-at signed
+tenfold-rows = (
+  tenfold-never (centimetre-record 255 255) (computed-bytes (centimetre-record 255 255) refl) (record { accepted = refl }) refl refl,
+  tenfold-marked (centimetre-record 0 0) (computed-bytes (centimetre-record 0 0) refl) (record { accepted = refl }) refl (omega arith),
+  tenfold-marked (centimetre-record 112 23) (computed-bytes (centimetre-record 112 23) refl) (record { accepted = refl }) refl (omega arith),
+)

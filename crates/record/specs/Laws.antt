@@ -1,5 +1,6 @@
 -- What is proved of the definitions, each law once.
 pub mod First
+pub mod Kinds
 pub mod Scan
 pub mod Head
 pub mod Reading
@@ -8,4 +9,5 @@ pub mod Accepted
 pub mod Rest
 pub mod Changed
 pub mod Moved
+pub mod Tenfold
 pub mod Trail

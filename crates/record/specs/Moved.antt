@@ -9,14 +9,14 @@ use lib.IntN.{ℤ}
 use Rattle.distance.specs.Fix.{Fix}
 use Rattle.distance.specs.Clock.{Stays, moved-fix}
 use Rattle.distance.specs.Laws.All.{All}
-use Rattle.format.specs.Format.{Kind, fixes, changed}
+use Rattle.format.specs.Format.{fixes, changed}
 use Rattle.record.specs.Checks.{head-refusal}
 
 -- Every time of its fixes is moved by s, and nothing else.
-abbrev pub moved-record : Kind → ℤ → List ℕ → List ℕ
-moved-record K s b = changed K (moved-fix s) b
+abbrev pub moved-record : ℤ → List ℕ → List ℕ
+moved-record s b = changed (moved-fix s) b
 
 -- "all still in 32 bits": every time of the record, whether a check of its fixes or of the question turns it away or none. Of bytes that one of checks 1 to 6
 -- turns away nothing is asked: those look at no fix, so that whatever stands there decides nothing.
-pub record Movable (K : Kind) (s : ℤ) (b : List ℕ) : Type 0 where
-  pub all-stay : head-refusal K b ≡ none → All (λ (a : Fix). Stays s (a .t)) (fixes K b)
+pub record Movable (s : ℤ) (b : List ℕ) : Type 0 where
+  pub all-stay : head-refusal b ≡ none → All (λ (a : Fix). Stays s (a .t)) (fixes b)

@@ -7,21 +7,23 @@ use lib.Dec.{ltb, leb}
 use lib.ListN.{length, take, drop}
 use lib.IntN.{ℤ}
 use Rattle.distance.specs.Fix.{Fix}
-use Rattle.format.specs.Format.{Kind, count-field, record-length, fix-at, fixes}
+use Rattle.format.specs.Kinds.{kinds, coded}
+use Rattle.format.specs.Format.{count-field, kind-field, kind-of, record-length, fix-at, fixes}
 use Rattle.record.specs.Checks.{read-refusal}
 use Rattle.record.specs.Answers.{Answer, answer, unless}
 
--- A fix stands at position k: the count says so, and the lent bytes hold it. Of an accepted record the first suffices (`yields-fix` of
--- Laws/Accepted.antt); bytes or a position of somebody's own making are read no further than they go.
-unfoldable pub stands : Kind → List ℕ → ℕ → Bool
-stands K b k = ltb k (count-field b) && leb (record-length K (suc k)) (length b)
+-- A fix stands at position k: there is such a kind, the count says so, and the lent bytes hold it. Of an accepted record the second suffices (`yields-fix` of
+-- Laws/Accepted.antt); bytes or a position of somebody's own making are read no further than they go, and of an unknown kind not at all (`unknown-yields-none`
+-- of Laws/Kinds.antt).
+unfoldable pub stands : List ℕ → ℕ → Bool
+stands b k = coded kinds (kind-field b) && (ltb k (count-field b) && leb (record-length (kind-of b) (suc k)) (length b))
 
 -- What a reader at position k yields, and where it stands afterwards: one on, or where it stood if none is left.
-unfoldable pub yields : Kind → List ℕ → ℕ → Option Fix
-yields K b k = cond (stands K b k) (some (fix-at K b k)) none
+unfoldable pub yields : List ℕ → ℕ → Option Fix
+yields b k = cond (stands b k) (some (fix-at (kind-of b) b k)) none
 
-unfoldable pub moves : Kind → List ℕ → ℕ → ℕ
-moves K b k = cond (stands K b k) (suc k) k
+unfoldable pub moves : List ℕ → ℕ → ℕ
+moves b k = cond (stands b k) (suc k) k
 
 -- Where a reader begins: on the first fix, if checks 1 to 9 accept the bytes. If they don't, it stands past every fix: no count of two bytes reaches
 -- this position, so it yields none, each time (`refused-yields-none` of Laws/Accepted.antt).
@@ -32,12 +34,16 @@ abbrev pub position-for : Option ℕ → ℕ
 position-for none = 0
 position-for (some k) = past-every-fix
 
-abbrev pub begins : Kind → List ℕ → ℕ
-begins K b = position-for (read-refusal K b)
+abbrev pub begins : List ℕ → ℕ
+begins b = position-for (read-refusal b)
 
 -- What a reader that stands there says of the checks (`begins-tells` of Laws/Reading.antt: of one that has just begun, what they say).
-unfoldable pub told-refusal : Kind → List ℕ → (at : ℕ) → Option ℕ
-told-refusal K b at = cond (ltb at past-every-fix) none (read-refusal K b)
+unfoldable pub told-refusal : List ℕ → (at : ℕ) → Option ℕ
+told-refusal b at = cond (ltb at past-every-fix) none (read-refusal b)
+
+-- The unit of the fixes that it yields, so many of which make a centimetre, or the refusal.
+abbrev pub unit-answer : List ℕ → Answer ℕ
+unit-answer b = answer (read-refusal b) (kind-of b .per-centimetre)
 
 -- ---- ALL FIXES AT ONCE, in order, into three lent columns: their times, x and y. "the reader and the listing [make checks] 1 to 9"; "A refusal is its
 -- number and nothing more, with all lent bytes untouched".
@@ -55,15 +61,15 @@ abbrev pub ys-of : List Fix → List ℤ
 ys-of = map (λ (f : Fix). f .y)
 
 -- The answer is the record's count, however long the columns are, or the refusal ..
-abbrev pub read-answer : Kind → List ℕ → Answer ℕ
-read-answer K b = answer (read-refusal K b) (count-field b)
+abbrev pub read-answer : List ℕ → Answer ℕ
+read-answer b = answer (read-refusal b) (count-field b)
 
 -- .. and each column is filled, or left as it was.
-abbrev pub times-read : Kind → List ℕ → (column : List ℕ) → List ℕ
-times-read K b column = unless (read-refusal K b) column (filled column (times-of (fixes K b)))
+abbrev pub times-read : List ℕ → (column : List ℕ) → List ℕ
+times-read b column = unless (read-refusal b) column (filled column (times-of (fixes b)))
 
-abbrev pub xs-read : Kind → List ℕ → (column : List ℤ) → List ℤ
-xs-read K b column = unless (read-refusal K b) column (filled column (xs-of (fixes K b)))
+abbrev pub xs-read : List ℕ → (column : List ℤ) → List ℤ
+xs-read b column = unless (read-refusal b) column (filled column (xs-of (fixes b)))
 
-abbrev pub ys-read : Kind → List ℕ → (column : List ℤ) → List ℤ
-ys-read K b column = unless (read-refusal K b) column (filled column (ys-of (fixes K b)))
+abbrev pub ys-read : List ℕ → (column : List ℤ) → List ℤ
+ys-read b column = unless (read-refusal b) column (filled column (ys-of (fixes b)))

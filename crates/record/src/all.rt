@@ -1,17 +1,20 @@
 // The reader of all fixes at once: their times, x and y into three lent columns of numbers.
 ghost use mathlib.Core.Path.{_≡_};
-ghost use Prim.Native.Nat.{_+_, _*_, _≤_};
+ghost use Prim.Native.Nat.{_≤_};
 ghost use lib.ListN.{length, set};
-ghost use Rattle.format.specs.Format.{trail, fix-at, each};
+ghost use Rattle.format.specs.Kinds.{layout};
+ghost use Rattle.format.specs.Format.{record-length, fix-at, each};
 ghost use Rattle.record.specs.Reading.{filled, times-of, xs-of, ys-of, read-answer, times-read, xs-read, ys-read};
 ghost use Rattle.record.specs.Answers.{read-count};
 use crate::AllRead;
 use crate::Checked;
 use crate::check;
-use distance::Centimetres;
+use distance::Coordinate;
 use distance::Seconds;
+use format::Kind;
 use format::count_at;
 use format::fix_at;
+use format::kind_at;
 
 // A time into its place of a column, if the column has that place.
 fn put_time(column: &mut [u32], k: usize, t: Seconds)
@@ -23,7 +26,7 @@ fn put_time(column: &mut [u32], k: usize, t: Seconds)
 }
 
 // A coordinate into its place of a column, if the column has that place.
-fn put_coordinate(column: &mut [i16], k: usize, c: Centimetres)
+fn put_coordinate(column: &mut [i32], k: usize, c: Coordinate)
     ensures { λ _. ⌜ now (column .exit) ≡ set (now (column .entry)) k (c .0) ⌝ }
 {
     let z = c.0;
@@ -33,13 +36,13 @@ fn put_coordinate(column: &mut [i16], k: usize, c: Centimetres)
 }
 
 // The first n fixes into the columns.
-fn fill(b: &[u8], n: usize, ts: &mut [u32], xs: &mut [i16], ys: &mut [i16])
-    requires { ⌜ (n ≤ 4096) × (10 + 8 * n ≤ length (now b)) ⌝ }
-    ensures { λ _. ⌜ (now (ts .exit) ≡ filled (now (ts .entry)) (times-of (each (fix-at trail (now (b .entry))) 0 n))) × (now (xs .exit) ≡ filled (now (xs .entry)) (xs-of (each (fix-at trail (now (b .entry))) 0 n))) × (now (ys .exit) ≡ filled (now (ys .entry)) (ys-of (each (fix-at trail (now (b .entry))) 0 n))) ⌝ }
+fn fill(b: &[u8], kind: Kind, n: usize, ts: &mut [u32], xs: &mut [i32], ys: &mut [i32])
+    requires { ⌜ (n ≤ 4096) × (record-length (layout kind) n ≤ length (now b)) ⌝ }
+    ensures { λ _. ⌜ (now (ts .exit) ≡ filled (now (ts .entry)) (times-of (each (fix-at (layout kind) (now (b .entry))) 0 n))) × (now (xs .exit) ≡ filled (now (xs .entry)) (xs-of (each (fix-at (layout kind) (now (b .entry))) 0 n))) × (now (ys .exit) ≡ filled (now (ys .entry)) (ys-of (each (fix-at (layout kind) (now (b .entry))) 0 n))) ⌝ }
 {
     let mut k = 0;
     while k < n {
-        let f = fix_at(b, k);
+        let f = fix_at(b, kind, k);
         put_time(ts, k, f.t);
         put_coordinate(xs, k, f.x);
         put_coordinate(ys, k, f.y);
@@ -47,16 +50,16 @@ fn fill(b: &[u8], n: usize, ts: &mut [u32], xs: &mut [i16], ys: &mut [i16])
     }
 }
 
-// All fixes of a record that checks 1 to 9 accept, into three columns: each gets as many as it holds. The answer is how many the record has.
-pub fn read_all(b: &[u8], ts: &mut [u32], xs: &mut [i16], ys: &mut [i16]) -> AllRead
-    ensures { λ r. ⌜ (read-count r ≡ read-answer trail (now (b .entry))) × (now (ts .exit) ≡ times-read trail (now (b .entry)) (now (ts .entry))) × (now (xs .exit) ≡ xs-read trail (now (b .entry)) (now (xs .entry))) × (now (ys .exit) ≡ ys-read trail (now (b .entry)) (now (ys .entry))) ⌝ }
+// All fixes of a record that checks 1 to 9 accept, into three columns, in the record's unit: each gets as many as it holds. The answer is how many the record has.
+pub fn read_all(b: &[u8], ts: &mut [u32], xs: &mut [i32], ys: &mut [i32]) -> AllRead
+    ensures { λ r. ⌜ (read-count r ≡ read-answer (now (b .entry))) × (now (ts .exit) ≡ times-read (now (b .entry)) (now (ts .entry))) × (now (xs .exit) ≡ xs-read (now (b .entry)) (now (xs .entry))) × (now (ys .exit) ≡ ys-read (now (b .entry)) (now (ys .entry))) ⌝ }
 {
     let v = check(b);
     match v {
         Checked::Refused(k) => AllRead::Refused(k),
         Checked::Accepted => {
             let n = count_at(b);
-            fill(b, n, ts, xs, ys);
+            fill(b, kind_at(b), n, ts, xs, ys);
             AllRead::Count(n as u32)
         },
     }

@@ -1,1 +1,2 @@
 mod LentArray
+mod WriteList

@@ -13,7 +13,7 @@ use Rattle.distance.specs.Integers.Differences.{diffs}
 use Rattle.distance.specs.Integers.Order.{ltZ-false, zero-le}
 use Rattle.format.specs.Laws.Numbers.{false-true}
 
--- A coordinate or an edge fits 64 bits.
+-- A coordinate fits 64 bits.
 pub widened : {w : Width} {z : ℤ} → T (leb (hbits w) (hbits w64)) → SFits w z → SFits w64 (toZ w (ofZ w z))
 widened {w} n f = rw (toZ-ofZ {w = w} f) (sfits-widen n f)
 

@@ -1,9 +1,8 @@
 // What the worked trails are printed with: words, numbers, fixes, and what the calls answer.
 use crossing::Crossed;
-use crossing::Edge;
 use crossing::Edges;
 use crossing::Window;
-use distance::Centimetres;
+use distance::Coordinate;
 use distance::Fix;
 use moment::Placed;
 use moment::Spot;
@@ -46,7 +45,7 @@ pub fn refused(k: u8) {
 
 // ---- trails
 
-fn coordinate(c: Centimetres) {
+pub fn coordinate(c: Coordinate) {
     whole(c.0 as i64);
 }
 
@@ -113,19 +112,15 @@ pub fn window(w: Window) {
     number(end.0 as u64);
 }
 
-fn edge(e: Edge) {
-    whole(e.0 as i64);
-}
-
 pub fn edges(e: Edges) {
     word(b"box x ");
-    edge(e.left);
+    coordinate(e.left);
     word(b"..");
-    edge(e.right);
+    coordinate(e.right);
     word(b", y ");
-    edge(e.bottom);
+    coordinate(e.bottom);
     word(b"..");
-    edge(e.top);
+    coordinate(e.top);
 }
 
 // ---- which fixes were kept
@@ -214,7 +209,7 @@ pub fn placed(p: Placed) {
 }
 
 // The greatest number that divides both numbers of a fraction, by Euclid; 1 if both are 0.
-fn common(n: u32, d: u32) -> u32
+fn common(n: u64, d: u64) -> u64
     ensures { λ r. ⌜ Greatest n d r ⌝ }
 {
     let mut a = n;
@@ -227,16 +222,16 @@ fn common(n: u32, d: u32) -> u32
     if a == 0 { 1 } else { a }
 }
 
-fn fraction(n: u32, d: u32) {
-    number(n as u64);
+fn fraction(n: u64, d: u64) {
+    number(n);
     if d != 1 {
         word(b"/");
-        number(d as u64);
+        number(d);
     }
 }
 
 // The told time in lowest terms, and behind it the form in which the call told it, if that is another.
-fn time(n: u32, d: u32) {
+fn time(n: u64, d: u64) {
     let c = common(n, d);
     word(b"yes, ");
     fraction(n / c, d / c);
@@ -250,7 +245,7 @@ pub fn crossed(r: Crossed) {
     match r {
         Crossed::Refused(k) => refused(k),
         Crossed::Denied => word(b"no"),
-        Crossed::Told(f) => time(f.num, f.den as u32),
+        Crossed::Told(f) => time(f.num, f.den as u64),
     }
 }
 

@@ -1,5 +1,6 @@
 -- THE LISTING. Document 01: "First line: count, then mark or `never`. Each fix: time, x, y. A refusal prints one line: `refused`, a space and the
--- number. Every line ends with the byte `0A`." Text is a list of bytes, ASCII.
+-- number. Every line ends with the byte `0A`." Text is a list of bytes, ASCII. Document 02, item 8, adds a kind of record in millimetres: its lines are the same, and
+-- the mark and the places are numbers of the record's own unit.
 use mathlib.Core.Bool.{cond}
 use mathlib.Core.List.{List, [], _∷_, _++_}
 use mathlib.Core.Option.{some, none}
@@ -7,7 +8,7 @@ use Prim.Native.Nat.{ℕ, zero, suc, _+_, _/_, _%_}
 use lib.Dec.{ltb, eqb}
 use lib.IntN.{ℤ, pos, negsuc}
 use Rattle.distance.specs.Fix.{Fix}
-use Rattle.format.specs.Format.{Kind, never, mark-field, count-field, fixes}
+use Rattle.format.specs.Format.{never, mark-field, count-field, fixes}
 use Rattle.record.specs.Checks.{read-refusal}
 
 -- ---- words
@@ -78,5 +79,5 @@ unfoldable pub refusal-line : ℕ → List ℕ
 refusal-line k = refused-word ++ (decimal k ++ (line-end ∷ []))
 
 -- The whole text of lent bytes: of the record, or of its refusal.
-unfoldable pub text : Kind → List ℕ → List ℕ
-text K b = elim (read-refusal K b) [ none ↦ record-text (count-field b) (mark-field b) (fixes K b) | some k ↦ refusal-line k ]
+unfoldable pub text : List ℕ → List ℕ
+text b = elim (read-refusal b) [ none ↦ record-text (count-field b) (mark-field b) (fixes b) | some k ↦ refusal-line k ]

@@ -3,13 +3,12 @@ ghost use mathlib.Core.Path.{_≡_};
 ghost use mathlib.Core.List.{_++_};
 ghost use Prim.Native.Nat.{_+_, _≤_, _<_};
 ghost use lib.ListN.{length, drop};
-ghost use Rattle.distance.specs.Fix.{fixOf};
+ghost use Rattle.distance.specs.Fix.{fixOf, Bounded, widest};
 ghost use Rattle.text.specs.Text.{decimal, integer, fix-line, mark-text, first-line, refusal-line, text};
-ghost use Rattle.format.specs.Format.{trail};
-ghost use Rattle.text.specs.Laws.Text.{Stored, step-text, opening-text, lines-in, closing-text};
+ghost use Rattle.text.specs.Laws.Text.{Stored, step-text, step-bounded, opening-text, lines-in, closing-text};
 ghost use Rattle.record.specs.Answers.{found, refused};
 ghost use Rattle.record.specs.Checks.{read-refusal};
-use distance::Centimetres;
+use distance::Coordinate;
 use distance::Fix;
 use format::count_at;
 use format::mark_at;
@@ -33,12 +32,12 @@ fn put_decimal(out: &mut [u8], at: usize, n: u32) -> usize
     end + 1
 }
 
-// A coordinate, with a minus sign before it if it is below 0.
-fn put_integer(out: &mut [u8], at: usize, c: Centimetres) -> usize
-    requires { ⌜ at + 6 ≤ length (now out) ⌝ }
-    ensures { λ r. ⌜ Stored (now (out .entry)) at (now (out .exit)) r (integer (c .0)) × (r ≤ at + 6) ⌝ }
+// A coordinate, with a minus sign before it if it is below 0. The lowest one of 32 bits has no opposite among them, so the sign is taken off in 64.
+fn put_integer(out: &mut [u8], at: usize, c: Coordinate) -> usize
+    requires { ⌜ at + length (integer (c .0)) ≤ length (now out) ⌝ }
+    ensures { λ r. ⌜ Stored (now (out .entry)) at (now (out .exit)) r (integer (c .0)) ⌝ }
 {
-    let z = c.0 as i32;
+    let z = c.0 as i64;
     if z < 0 {
         out[at] = b'-';
         return put_decimal(out, at + 1, (0 - z) as u32);
@@ -59,10 +58,10 @@ fn put_word(out: &mut [u8], at: usize, word: &[u8]) -> usize
     at + k
 }
 
-// The line of a fix, at most 29 bytes.
+// The line of a fix of any kind, at most 31 bytes.
 fn put_fix_line(out: &mut [u8], at: usize, f: Fix) -> usize
-    requires { ⌜ at + 29 ≤ length (now out) ⌝ }
-    ensures { λ r. ⌜ Stored (now (out .entry)) at (now (out .exit)) r (fix-line (fixOf f)) × (r ≤ at + 29) ⌝ }
+    requires { ⌜ (at + 31 ≤ length (now out)) × Bounded widest (fixOf f) ⌝ }
+    ensures { λ r. ⌜ Stored (now (out .entry)) at (now (out .exit)) r (fix-line (fixOf f)) × (r ≤ at + 31) ⌝ }
 {
     let t = f.t;
     let time = put_word(out, at, b"fix ");
@@ -109,8 +108,8 @@ fn put_refusal(out: &mut [u8], k: u8) -> usize
 
 // The line of what a reader yielded; nothing, if none was left.
 fn put_step(out: &mut [u8], at: usize, s: Step) -> usize
-    requires { ⌜ at + 29 ≤ length (now out) ⌝ }
-    ensures { λ r. ⌜ Stored (now (out .entry)) at (now (out .exit)) r (step-text (found s)) × (r ≤ at + 29) ⌝ }
+    requires { ⌜ (at + 31 ≤ length (now out)) × step-bounded (found s) ⌝ }
+    ensures { λ r. ⌜ Stored (now (out .entry)) at (now (out .exit)) r (step-text (found s)) × (r ≤ at + 31) ⌝ }
 {
     match s {
         Step::Found(f) => put_fix_line(out, at, f),
@@ -120,8 +119,8 @@ fn put_step(out: &mut [u8], at: usize, s: Step) -> usize
 
 // The first line: of the record, or of its refusal, which is all that there is then.
 fn put_opening(out: &mut [u8], b: &[u8], v: Checked) -> usize
-    requires { ⌜ (refused v ≡ read-refusal trail (now b)) × (17 ≤ length (now out)) ⌝ }
-    ensures { λ r. ⌜ Stored (now (out .entry)) 0 (now (out .exit)) r (opening-text trail (now (b .entry))) × (r ≤ 17) ⌝ }
+    requires { ⌜ (refused v ≡ read-refusal (now b)) × (17 ≤ length (now out)) ⌝ }
+    ensures { λ r. ⌜ Stored (now (out .entry)) 0 (now (out .exit)) r (opening-text (now (b .entry))) × (r ≤ 17) ⌝ }
 {
     match v {
         Checked::Refused(k) => put_refusal(out, k),
@@ -131,8 +130,8 @@ fn put_opening(out: &mut [u8], b: &[u8], v: Checked) -> usize
 
 // How many lines of fixes follow it.
 fn lines_in(b: &[u8], v: Checked) -> usize
-    requires { ⌜ refused v ≡ read-refusal trail (now b) ⌝ }
-    ensures { λ r. ⌜ r ≡ lines-in trail (now (b .entry)) ⌝ }
+    requires { ⌜ refused v ≡ read-refusal (now b) ⌝ }
+    ensures { λ r. ⌜ r ≡ lines-in (now (b .entry)) ⌝ }
 {
     match v {
         Checked::Refused(_) => 0,
@@ -153,8 +152,8 @@ fn put_closing(out: &mut [u8], at: usize, v: Checked) -> usize
 
 // The text of lent bytes, as a reader says and yields it.
 fn put_text(out: &mut [u8], b: &[u8]) -> usize
-    requires { ⌜ 118805 ≤ length (now out) ⌝ }
-    ensures { λ r. ⌜ Stored (now (out .entry)) 0 (now (out .exit)) r (text trail (now (b .entry))) × (r ≤ 118805) ⌝ }
+    requires { ⌜ 126997 ≤ length (now out) ⌝ }
+    ensures { λ r. ⌜ Stored (now (out .entry)) 0 (now (out .exit)) r (text (now (b .entry))) × (r ≤ 126997) ⌝ }
 {
     let mut r = read(b);
     let v = said(r);
@@ -169,9 +168,9 @@ fn put_text(out: &mut [u8], b: &[u8]) -> usize
     put_closing(out, end, v)
 }
 
-// The text of lent bytes, at the start of the output, and its length. The longest record's text takes 118,805 bytes.
-pub fn list(b: &[u8], out: &mut [u8; 118805]) -> usize
-    ensures { λ r. ⌜ (r ≡ length (text trail (now (b .entry)))) × (r ≤ 118805) × (now (out .exit) ≡ text trail (now (b .entry)) ++ drop r (now (out .entry))) ⌝ }
+// The text of lent bytes, at the start of the output, and its length. The longest record's text takes 126,997 bytes (`longest-text` of specs/Examples.antt).
+pub fn list(b: &[u8], out: &mut [u8; 126997]) -> usize
+    ensures { λ r. ⌜ (r ≡ length (text (now (b .entry)))) × (r ≤ 126997) × (now (out .exit) ≡ text (now (b .entry)) ++ drop r (now (out .entry))) ⌝ }
 {
     put_text(out, b)
 }

@@ -4,6 +4,7 @@ pub mod Keeps
 pub mod Kept
 pub mod Again
 pub mod Mapped
+pub mod Tenfold
 pub mod Trail
 pub mod Near
 pub mod Search

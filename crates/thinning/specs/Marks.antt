@@ -4,6 +4,7 @@ use mathlib.Core.Path.{_≡_}
 use mathlib.Core.Bool.{Bool, true, false, cond}
 use mathlib.Core.List.{List, [], _∷_}
 use Prim.Native.Nat.{ℕ, suc, _+_, _-_, _<_, _≤_}
+use lib.Dec.{leb}
 use lib.ListN.{length, getD, set}
 use Rattle.distance.specs.Fix.{Fix}
 use Rattle.thinning.specs.Thinning.{Thinned}
@@ -36,6 +37,12 @@ pub record Furthest (g : ℕ → ℕ) (lo hi m v : ℕ) : Type 0 where
   pub is : v ≡ g m
   pub most : (k : ℕ) → lo < k → k < hi → g k ≤ v
   pub first : (k : ℕ) → lo < k → k < m → g k < v
+
+-- Of the span from position lo to position hi: m is the furthest, and whether it is within e, so that all are.
+pub record Judged {A : Type 0} (far : (i m j : A) → ℕ) (bound : (e : ℕ) (i j : A) → ℕ) (f : ℕ → A) (e lo hi m : ℕ) (within : Bool) : Type 0 where
+  pub measure : ℕ
+  pub furthest : Furthest (λ x. far (f lo) (f x) (f hi)) lo hi m measure
+  pub tested : within ≡ leb measure (bound e (f lo) (f hi))
 
 -- Thinning of the span from position lo to position hi makes one list of marks of another, and counts c: a case for each way out of the function.
 module _ {A : Type 0} (far : (i m j : A) → ℕ) (bound : (e : ℕ) (i j : A) → ℕ) (f : ℕ → A) (e : ℕ) where

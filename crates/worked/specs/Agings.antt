@@ -7,7 +7,7 @@ use native.Mathlib.Numerals.{add-one}
 use native.Mathlib.Omega.{arith}
 use lib.ListN.{length, drop, getD, drop-of-length-le}
 use lib.Seq.{drop-cons}
-use Rattle.format.specs.Format.{trail, fixes, mark-field}
+use Rattle.format.specs.Format.{fixes, mark-field}
 use Rattle.record.specs.Answers.{Answer, gives, turns-away}
 use Rattle.aging.specs.declared.Aged.{Aged}
 use Rattle.aging.specs.declared.Aged.the-variants.{Count, Refused}
@@ -16,7 +16,7 @@ use Rattle.questions.specs.Worked.{Left, unless-refused, aged-all}
 
 -- What agings answered, with what they left of the buffer.
 abbrev pub leaving : Aged → List ℕ → Answer Left
-leaving (Count c) b = gives (record { kept = fixes trail b; count = c; mark = mark-field b })
+leaving (Count c) b = gives (record { kept = fixes b; count = c; mark = mark-field b })
 leaving (Refused k) b = turns-away k
 
 -- After the first i agings of a list, with the buffer and the count as they are then, the rest gives what the whole list gives.

@@ -1,65 +1,70 @@
 // Document 01's trails worked by hand, run through the calls that a line control makes: each is written as a record, and what is asked of it is asked of
-// the record's bytes. One line a row, to be laid beside the paper's table, whose row k document 02's item 1 has changed. Nothing here knows what the
+// the record's bytes. One line a row, to be laid beside the paper's table, whose row k document 02's item 1 has changed; below it rows in millimetres. Nothing here knows what the
 // answers should be; specs/Worked.antt of the questions layer proves them of the definitions.
 use aging::Aged;
-use crossing::Edge;
 use crossing::Edges;
 use crossing::Window;
-use distance::Centimetres;
+use distance::Coordinate;
 use distance::Fix;
 use distance::Seconds;
 use distance::Tolerance;
+use format::Kind;
 ghost use mathlib.Core.Path.{_≡_};
 ghost use Rattle.questions.specs.Worked.{aged-all};
 ghost use Rattle.worked.specs.Agings.{leaving};
 
-// ---- the trails, each as its record; the longest has four fixes
+// ---- the trails, each as its record; the longest has four fixes, which in millimetres take 58 bytes
 
 // A trail that the writer turned away would leave zeros, which every call refuses.
-fn record_of(ts: &[u32], xs: &[i16], ys: &[i16]) -> [u8; 42] {
-    let mut bytes = [0u8; 42];
-    writing::write(ts, xs, ys, &mut bytes);
+fn record_of(kind: Kind, ts: &[u32], xs: &[i32], ys: &[i32]) -> [u8; 58] {
+    let mut bytes = [0u8; 58];
+    writing::write(kind, ts, xs, ys, &mut bytes);
     bytes
 }
 
-fn trail_a() -> [u8; 42] {
-    record_of(&[5], &[1], &[1])
+fn trail_a() -> [u8; 58] {
+    record_of(Kind::Trail, &[5], &[1], &[1])
 }
 
-fn trail_b() -> [u8; 42] {
-    record_of(&[0, 10, 20], &[0, 100, 200], &[0, 0, 0])
+fn trail_b() -> [u8; 58] {
+    record_of(Kind::Trail, &[0, 10, 20], &[0, 100, 200], &[0, 0, 0])
 }
 
-fn trail_c() -> [u8; 42] {
-    record_of(&[0, 10, 20], &[0, 30, 0], &[0, 40, 0])
+fn trail_c() -> [u8; 58] {
+    record_of(Kind::Trail, &[0, 10, 20], &[0, 30, 0], &[0, 40, 0])
 }
 
-fn trail_e() -> [u8; 42] {
-    record_of(&[0, 10, 20], &[0, 90, 100], &[0, 0, 0])
+fn trail_e() -> [u8; 58] {
+    record_of(Kind::Trail, &[0, 10, 20], &[0, 90, 100], &[0, 0, 0])
 }
 
-fn trail_g() -> [u8; 42] {
-    record_of(&[0, 1, 3], &[0, 0, 1], &[0, 0, 0])
+fn trail_g() -> [u8; 58] {
+    record_of(Kind::Trail, &[0, 1, 3], &[0, 0, 1], &[0, 0, 0])
 }
 
-fn trail_h() -> [u8; 42] {
-    record_of(&[0, 10, 20, 30], &[0, 20, 20, 0], &[0, 0, 0, 0])
+fn trail_h() -> [u8; 58] {
+    record_of(
+        Kind::Trail,
+        &[0, 10, 20, 30],
+        &[0, 20, 20, 0],
+        &[0, 0, 0, 0],
+    )
 }
 
-fn trail_k() -> [u8; 42] {
-    record_of(&[0, 10], &[0, 5], &[0, -5])
+fn trail_k() -> [u8; 58] {
+    record_of(Kind::Trail, &[0, 10], &[0, 5], &[0, -5])
 }
 
-fn trail_l() -> [u8; 42] {
-    record_of(&[0, 10], &[0, 100], &[0, 0])
+fn trail_l() -> [u8; 58] {
+    record_of(Kind::Trail, &[0, 10], &[0, 100], &[0, 0])
 }
 
 fn box_l() -> Edges {
     Edges {
-        left: Edge(33),
-        right: Edge(40),
-        bottom: Edge(-5),
-        top: Edge(5),
+        left: Coordinate(33),
+        right: Coordinate(40),
+        bottom: Coordinate(-5),
+        top: Coordinate(5),
     }
 }
 
@@ -94,7 +99,7 @@ fn age_all(b: &mut [u8], es: &[u16]) -> Aged
     Aged::Count(count)
 }
 
-fn aged(letter: &[u8], original: [u8; 42], es: &[u16]) {
+fn aged(letter: &[u8], original: [u8; 58], es: &[u16]) {
     let mut left = original;
     begin(letter, &original);
     table::tolerances(es);
@@ -107,7 +112,7 @@ fn aged(letter: &[u8], original: [u8; 42], es: &[u16]) {
     table::word(b"\n");
 }
 
-fn placed(letter: &[u8], b: [u8; 42], second: u32, thousandths: u16) {
+fn placed(letter: &[u8], b: [u8; 58], second: u32, thousandths: u16) {
     begin(letter, &b);
     table::word(b"moment ");
     table::moment(second, thousandths);
@@ -136,19 +141,30 @@ fn crossed(start: u32, end: u32) {
 // Two fixes of one place, so many seconds apart: what the writer says of them, and what the reader says of their record. A record that the writer turns away
 // is made of one that it took, with the second fix stored over.
 fn apart(label: &[u8], seconds: u32) {
-    let mut bytes = record_of(&[0, 1], &[0, 0], &[0, 0]);
+    let mut bytes = record_of(Kind::Trail, &[0, 1], &[0, 0], &[0, 0]);
     let second = Fix {
         t: Seconds(seconds),
-        x: Centimetres(0),
-        y: Centimetres(0),
+        x: Coordinate(0),
+        y: Coordinate(0),
     };
-    format::put_fix(&mut bytes, 18, second);
+    format::put_fix(&mut bytes, Kind::Trail, 18, second);
     begin(label, &bytes);
     table::word(b"writer and reader | ");
-    let mut output = [0u8; 42];
-    table::written(writing::write(&[0, seconds], &[0, 0], &[0, 0], &mut output));
+    let mut output = [0u8; 58];
+    table::written(writing::write(Kind::Trail, &[0, seconds], &[0, 0], &[0, 0], &mut output));
     table::word(b" and ");
     table::checked(record::check(&bytes));
+    table::word(b"\n");
+}
+
+// A lone fix so far from the middle: what the writer of millimetres says of it.
+fn placed_at(label: &[u8], x: i32) {
+    let mut output = [0u8; 58];
+    table::word(label);
+    table::word(b" | (0,");
+    table::coordinate(Coordinate(x));
+    table::word(b",0), writer | ");
+    table::written(writing::write(Kind::MillimetreTrail, &[0], &[x], &[0], &mut output));
     table::word(b"\n");
 }
 
@@ -177,9 +193,38 @@ fn beside() {
     apart(b"equal times", 0);
     placed(b"k", trail_k(), 1, 234);
     placed(b"k", trail_k(), 3, 0);
-    let image = record_of(&[0, 10], &[0, -5], &[0, 5]);
+    let image = record_of(Kind::Trail, &[0, 10], &[0, -5], &[0, 5]);
     placed(b"k mirrored", image, 1, 0);
     placed(b"k mirrored", image, 3, 0);
+}
+
+// Document 02, item 8: trails c and h times ten at ten times the tolerance, two whose sums of squares take two words, and the limits of tolerances and places.
+fn millimetres() {
+    let kind = Kind::MillimetreTrail;
+    let c = record_of(kind, &[0, 10, 20], &[0, 300, 0], &[0, 400, 0]);
+    let h = record_of(kind, &[0, 10, 20, 30], &[0, 200, 200, 0], &[0, 0, 0, 0]);
+    aged(b"c times ten", c, &[500]);
+    aged(b"c times ten", c, &[499]);
+    aged(b"h times ten", h, &[120]);
+    aged(b"h times ten", h, &[250, 120]);
+    let corners = record_of(
+        kind,
+        &[0, 1, 65535],
+        &[-160000, 160000, -160000],
+        &[160000, -160000, 160000],
+    );
+    aged(b"corners", corners, &[60000]);
+    let words = record_of(
+        kind,
+        &[0, 1, 2, 65535],
+        &[0, 159983, 160000, 0],
+        &[0, 0, 0, 0],
+    );
+    aged(b"words apart", words, &[60000]);
+    aged(b"tolerance", c, &[60000]);
+    aged(b"tolerance", c, &[60001]);
+    placed_at(b"place", 160000);
+    placed_at(b"place", 160001);
 }
 
 fn main() {
@@ -193,4 +238,6 @@ fn main() {
     crossed(0, 10);
     table::word(b"\n");
     beside();
+    table::word(b"\nDocument 02, item 8, in millimetres:\n");
+    millimetres();
 }

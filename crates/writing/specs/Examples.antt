@@ -1,4 +1,4 @@
--- THE WRITER IN NUMBERS. Fixes, the length of an output, and what document 01 says of them: the definitions and the code cannot be changed together
+-- THE WRITER IN NUMBERS. Fixes, the length of an output, and what document 01 and document 02's item 8 say of them: the definitions and the code cannot be changed together
 -- without these rows. Each line is computed.
 use mathlib.Core.Path.{_≡_, refl}
 use mathlib.Core.List.{List, [], _∷_, _++_}
@@ -9,8 +9,9 @@ use lib.IntN.{ℤ, pos}
 use Rattle.distance.specs.Examples.{Computes, minus}
 use Rattle.distance.specs.Fix.{Fix, last-of}
 use Rattle.format.specs.Bytes.{bytes-of, unsigned}
-use Rattle.format.specs.Format.{trail, each, fix-bytes, all-bytes, header-bytes, record-bytes}
-use Rattle.format.specs.Examples.{document-bytes, document-fixes}
+use Rattle.format.specs.Kinds.{trail, millimetre-trail}
+use Rattle.format.specs.Format.{each, fix-to, fix-bytes, all-bytes, header-bytes, record-bytes}
+use Rattle.format.specs.Examples.{document-bytes, document-fixes, millimetre-bytes, millimetre-fixes}
 use Rattle.record.specs.Checks.{first, sentence, some-outside, some-early-after, some-early, of-ends, refusal, writing}
 use Rattle.record.specs.Answers.{gives, turns-away}
 use Rattle.writing.specs.Writing.{asked-to-write, write-answer, written}
@@ -58,6 +59,23 @@ pub writer-says : Computes (λ (r : List Fix × ℕ). refusal trail writing (ask
 unfolding first sentence some-outside some-early-after some-early last-of of-ends each
 writer-says = refl
 
+-- .. and of kind 2, by its own limits
+abbrev pub millimetre-write-rows : List ((List Fix × ℕ) × Option ℕ)
+millimetre-write-rows =
+    -- 7. "places −160,000 to 160,000"
+    ((a-fix 5 (pos 160000) (minus 160000) ∷ [], 22), none)
+    ∷ ((a-fix 5 (pos 160001) (pos 0) ∷ [], 22), some 7)
+    ∷ ((a-fix 5 (pos 0) (minus 160001) ∷ [], 22), some 7)
+    -- 15. "length 10 + 12n": 4,096 fixes take 49,162 bytes
+    ∷ ((a-fix 5 (pos 16001) (pos 0) ∷ [], 21), some 15)
+    ∷ ((each a-second-each 0 4096, 49162), none)
+    ∷ ((each a-second-each 0 4096, 49161), some 15)
+    ∷ []
+
+pub millimetre-writer-says : Computes (λ (r : List Fix × ℕ). refusal millimetre-trail writing (asked-to-write (r .0) (r .1))) millimetre-write-rows
+unfolding first sentence some-outside some-early-after some-early last-of of-ends each
+millimetre-writer-says = refl
+
 -- ---- (1000, −1, 2) into an output of 20 bytes: document 01's 18 bytes, and the two after them as they were; and into one of 17, which stays
 abbrev pub twenty : List ℕ
 twenty = 1 ∷ 2 ∷ 3 ∷ 4 ∷ 5 ∷ 6 ∷ 7 ∷ 8 ∷ 9 ∷ 10 ∷ 11 ∷ 12 ∷ 13 ∷ 14 ∷ 15 ∷ 16 ∷ 17 ∷ 18 ∷ 19 ∷ 20 ∷ []
@@ -69,5 +87,19 @@ pub one-written : (write-answer trail document-fixes twenty ≡ gives 18)
     × (written trail document-fixes twenty ≡ document-bytes ++ 19 ∷ 20 ∷ [])
     × (write-answer trail document-fixes seventeen ≡ turns-away 15)
     × (written trail document-fixes seventeen ≡ seventeen)
-unfolding first sentence some-outside some-early-after some-early last-of of-ends record-bytes header-bytes all-bytes fix-bytes bytes-of unsigned
+unfolding first sentence some-outside some-early-after some-early last-of of-ends record-bytes header-bytes all-bytes fix-bytes fix-to bytes-of unsigned
 one-written = (refl, refl, refl, refl)
+
+-- two fixes in millimetres into an output of 35 bytes: their 34 bytes, and the one after them as it was; and into one of 33, which stays
+abbrev pub thirty-five : List ℕ
+thirty-five = twenty ++ take 15 twenty
+
+abbrev pub thirty-three : List ℕ
+thirty-three = take 33 thirty-five
+
+pub two-written : (write-answer millimetre-trail millimetre-fixes thirty-five ≡ gives 34)
+    × (written millimetre-trail millimetre-fixes thirty-five ≡ millimetre-bytes ++ 15 ∷ [])
+    × (write-answer millimetre-trail millimetre-fixes thirty-three ≡ turns-away 15)
+    × (written millimetre-trail millimetre-fixes thirty-three ≡ thirty-three)
+unfolding first sentence some-outside some-early-after some-early last-of of-ends record-bytes header-bytes all-bytes fix-bytes fix-to bytes-of unsigned
+two-written = (refl, refl, refl, refl)

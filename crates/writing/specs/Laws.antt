@@ -2,3 +2,5 @@
 pub mod Writing
 pub mod ReadsBack
 pub mod Passing
+pub mod Centimetres
+pub mod Millimetres

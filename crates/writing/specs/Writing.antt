@@ -1,14 +1,16 @@
 -- THE WRITER. Document 01: "The writer takes a lent list of fixes and puts down the record marked never; it answers the record's length, and later
 -- bytes of the output don't change."
 use mathlib.Core.Path.{_≡_}
-use mathlib.Core.List.{List, [], _∷_, _++_}
-use mathlib.Core.Option.{Option}
+use mathlib.Core.List.{List, _++_}
+use mathlib.Core.Option.{Option, none}
 use Prim.Native.Nat.{ℕ, min}
 use lib.ListN.{length, getD, drop}
 use lib.IntN.{ℤ, pos}
-use Rattle.distance.specs.Fix.{Fix, fixOf}
-use Rattle.distance.specs.declared.Fix.{Fix as CodeFix}
-use Rattle.format.specs.Format.{Kind, never, mark-field, record-length, each, fixes, record-bytes}
+use Rattle.distance.specs.Fix.{Fix}
+use Rattle.writing.specs.declared.CentimetreFix.{CentimetreFix}
+use Rattle.writing.specs.declared.MillimetreFix.{MillimetreFix}
+use Rattle.format.specs.Kinds.{Kind}
+use Rattle.format.specs.Format.{never, mark-field, kind-of, record-length, each, fixes, record-bytes}
 use Rattle.record.specs.Checks.{Asked, nothing, refusal, writing, IsAccepted}
 use Rattle.record.specs.Answers.{Answer, answer, unless}
 
@@ -43,16 +45,23 @@ write-answer K l out = answer (write-refusal K l out) (record-length K (length l
 abbrev pub written : Kind → List Fix → List ℕ → List ℕ
 written K l out = unless (write-refusal K l out) out (record-bytes K never l ++ drop (record-length K (length l)) out)
 
--- "Reading it gives the list again": the bytes begin with an accepted record, marked never, whose fixes are the list.
+-- "Reading it gives the list again": the bytes begin with an accepted record of that kind, marked never, whose fixes are the list.
 pub record ReadsBack (K : Kind) (l : List Fix) (b : List ℕ) : Type 0 where
-  pub is-accepted : IsAccepted K b
+  pub is-accepted : IsAccepted b
+  pub of-kind : kind-of b ≡ K
   pub is-never : mark-field b ≡ never
-  pub fixes-are : fixes K b ≡ l
+  pub fixes-are : fixes b ≡ l
 
--- A lent list of fixes: what each says.
-abbrev pub lent-fixes : List CodeFix → List Fix
-lent-fixes [] = []
-lent-fixes (f ∷ l) = fixOf f ∷ lent-fixes l
+-- What a writer promises of its answer and of the output afterwards.
+abbrev pub Writes : Kind → List Fix → List ℕ → Answer ℕ → List ℕ → Type 0
+Writes K l out says after = (says ≡ write-answer K l out) × (after ≡ written K l out) × (write-refusal K l out ≡ none → ReadsBack K l after)
+
+-- What a fix of a lent list says; its unit is the struct's.
+abbrev pub in-centimetres : CentimetreFix → Fix
+in-centimetres f = record { t = f .t .0; x = f .x .0; y = f .y .0 }
+
+abbrev pub in-millimetres : MillimetreFix → Fix
+in-millimetres f = record { t = f .t .0; x = f .x .0; y = f .y .0 }
 
 -- A list of fixes as it is lent to the core: a column of numbers for each field, and as many fixes as all three columns have.
 abbrev pub column-fix : List ℕ → List ℤ → List ℤ → ℕ → Fix

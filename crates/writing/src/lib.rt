@@ -1,21 +1,45 @@
-// The writers of the record layer: over a lent list of fixes, and over three columns of numbers. Both make the same checks, put down the same bytes and
-// promise that reading gives the list again.
+// The writers of the record layer: over a lent list of fixes, whose struct says their unit, and over three columns of numbers. All make the same checks, put
+// down the same bytes and promise that reading gives the list again.
 mod columns;
-mod lent;
+mod in_centimetres;
+mod in_millimetres;
+mod stage;
 
 pub use columns::write;
-pub use lent::write_fixes;
+use distance::Seconds;
+use format::Kind;
+use format::record_length;
+pub use in_centimetres::write_centimetres;
+pub use in_millimetres::write_millimetres;
 use record::Checked;
 ghost use mathlib.Core.Path.{_≡_};
-ghost use Prim.Native.Nat.{_+_, _*_, _≤_};
+ghost use Prim.Native.Nat.{_≤_};
 ghost use mathlib.Core.List.{List};
 ghost use mathlib.Core.Option.{none};
 ghost use lib.ListN.{length};
 ghost use Rattle.distance.specs.Fix.{Fix as Plain};
-ghost use Rattle.format.specs.Format.{trail};
+ghost use Rattle.format.specs.Kinds.{layout};
+ghost use Rattle.format.specs.Format.{record-length};
 ghost use Rattle.record.specs.Checks.{sentence, first, fix-checks, refusal, writing};
 ghost use Rattle.record.specs.Answers.{refused};
 ghost use Rattle.writing.specs.Writing.{asked-to-write};
+
+// A coordinate in centimetres, and a fix in them; and in millimetres. A length in one unit can't stand in the other's place.
+pub struct Centimetres(pub i16);
+
+pub struct CentimetreFix {
+    pub t: Seconds,
+    pub x: Centimetres,
+    pub y: Centimetres,
+}
+
+pub struct Millimetres(pub i32);
+
+pub struct MillimetreFix {
+    pub t: Seconds,
+    pub x: Millimetres,
+    pub y: Millimetres,
+}
 
 // What the writer answers.
 pub enum Written {
@@ -24,8 +48,8 @@ pub enum Written {
 }
 
 // The writer's checks 3, 7, 8, 9 and 15, of a list of n fixes whose pass said `scanned` and an output of so many bytes.
-fn write_says(n: usize, scanned: Checked, output: usize) -> Checked
-    ensures { λ r. ⌜ ((l : List Plain) → length l ≡ n → refused scanned ≡ first (sentence trail (asked-to-write l output)) fix-checks → refused r ≡ refusal trail writing (asked-to-write l output)) × (refused r ≡ none → (n ≤ 4096) × (10 + 8 * n ≤ output)) ⌝ }
+fn write_says(kind: Kind, n: usize, scanned: Checked, output: usize) -> Checked
+    ensures { λ r. ⌜ ((l : List Plain) → length l ≡ n → refused scanned ≡ first (sentence (layout kind) (asked-to-write l output)) fix-checks → refused r ≡ refusal (layout kind) writing (asked-to-write l output)) × (refused r ≡ none → (n ≤ 4096) × (record-length (layout kind) n ≤ output)) ⌝ }
 {
     if n == 0 {
         return Checked::Refused(3);
@@ -36,7 +60,7 @@ fn write_says(n: usize, scanned: Checked, output: usize) -> Checked
     match scanned {
         Checked::Refused(k) => Checked::Refused(k),
         Checked::Accepted => {
-            if output < 10 + 8 * n {
+            if output < record_length(kind, n as u32) as usize {
                 Checked::Refused(15)
             } else {
                 Checked::Accepted

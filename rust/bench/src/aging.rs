@@ -3,39 +3,39 @@
 use std::hint::black_box;
 
 use trails_tests::interface;
-use trails_tests::plain::{read, record, Fix, NEVER};
 
-use crate::thinning;
+use crate::thinning::Thinned;
 use crate::timing::{repeated, Run};
-use crate::trails::Kind;
 
 /// An aging changes its record, so copies are made before the clock starts: at most so many, to fit in a core's cache,
 /// and no more than measure so many fixes, for the dearest trail takes long enough alone.
 const COPIES: usize = 16;
 const MEASURED: u32 = 500_000;
 
-pub struct Aging {
-    fixes: Vec<Fix>,
+pub struct Aging<F> {
+    fixes: Vec<F>,
     record: Vec<u8>,
     tolerance: u16,
     copies: usize,
 }
 
-impl Aging {
+impl<F: Thinned> Aging<F> {
     /// Both must do the same work, or comparing their times means nothing.
-    pub fn new(kind: &Kind, n: usize) -> Aging {
-        let Kind {
-            name, tolerance, ..
-        } = *kind;
-        let fixes = (kind.fixes)(n);
-        let mut aged = record(NEVER, &fixes);
+    pub fn new(name: &str, fixes: Vec<F>, tolerance: u16) -> Aging<F> {
+        let record = trails::write(&fixes).expect("the trails are good");
+        let mut aged = record.clone();
         let answer = interface::age(&mut aged, tolerance);
-        let thinned = thinning::thin(&fixes, tolerance);
-        let same = (answer.refusal, answer.value) == (0, thinned.count)
-            && read(&aged).map(|trail| trail.fixes) == Ok(thinned.kept);
-        assert!(same, "{name}, {n} fixes: the two thinnings differ");
+        let (kept, count) = F::thin(&fixes, tolerance);
+        let numbers = kept.iter().map(|fix| fix.numbers()).collect();
+        let same = (answer.refusal, answer.value) == (0, count)
+            && trails::fixes(&aged).map(|fixes| fixes.numbers()) == Ok(numbers);
+        assert!(
+            same,
+            "{name}, {} fixes: the two thinnings differ",
+            fixes.len()
+        );
         Aging {
-            record: record(NEVER, &fixes),
+            record,
             fixes,
             tolerance,
             copies: COPIES.min(1 + (MEASURED / (1 + answer.value)) as usize),
@@ -59,16 +59,16 @@ impl Aging {
 
     pub fn plain(&self) -> Run<'_> {
         let mut copies = vec![self.fixes.clone(); self.copies];
-        let afresh = |copies: &mut Vec<Vec<Fix>>| {
+        let afresh = |copies: &mut Vec<Vec<F>>| {
             for fixes in copies {
                 fixes.copy_from_slice(&self.fixes);
             }
         };
-        let thin = |copies: &mut Vec<Vec<Fix>>| {
+        let age = |copies: &mut Vec<Vec<F>>| {
             for fixes in copies {
-                black_box(thinning::thin(black_box(fixes), self.tolerance));
+                black_box(F::thin(black_box(fixes), self.tolerance));
             }
         };
-        Box::new(move || repeated(self.copies, &mut copies, afresh, thin))
+        Box::new(move || repeated(self.copies, &mut copies, afresh, age))
     }
 }

@@ -1,5 +1,7 @@
 //! How the table looks: a name, and columns that end at the same place in every section.
 
+use trails::in_threes;
+
 const NAME: usize = 26;
 const COLUMN: usize = 12;
 
@@ -17,23 +19,10 @@ pub fn heading(name: &str, columns: &[&str]) {
     println!("{}", "-".repeat(NAME + COLUMN * columns.len()));
 }
 
-/// A whole number with its digits in threes.
-pub fn whole(number: u64) -> String {
-    let digits = number.to_string();
-    let mut text = String::new();
-    for (k, digit) in digits.chars().enumerate() {
-        if k > 0 && (digits.len() - k).is_multiple_of(3) {
-            text.push(',');
-        }
-        text.push(digit);
-    }
-    text
-}
-
 /// A number with two decimals.
 fn decimal(number: f64) -> String {
     let hundredths = (number * 100.0).round() as u64;
-    format!("{}.{:02}", whole(hundredths / 100), hundredths % 100)
+    format!("{}.{:02}", in_threes(hundredths / 100), hundredths % 100)
 }
 
 pub fn microseconds(seconds: f64) -> String {

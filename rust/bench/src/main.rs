@@ -7,10 +7,10 @@ mod beside;
 mod growth;
 mod layout;
 mod questions;
+mod sorts;
 mod stack;
 mod thinning;
 mod timing;
-mod trails;
 
 use std::process::ExitCode;
 
@@ -29,7 +29,7 @@ fn main() -> ExitCode {
     match arguments[..] {
         [] => table(),
         // how the table's last section starts this program again
-        [stack::ARGUMENT, direction, bytes] => stack::age_within(direction, bytes),
+        [stack::ARGUMENT, name, bytes] => stack::age_within(name, bytes),
         _ => {
             eprintln!("the bench takes no arguments");
             ExitCode::from(2)

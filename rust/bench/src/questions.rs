@@ -5,15 +5,17 @@
 
 use std::hint::black_box;
 
+use trails::in_threes;
 use trails_tests::cases::Random;
 use trails_tests::interface;
 use trails_tests::plain::crossing::{Area, Question, Window};
-use trails_tests::plain::{record, Fix, MOST_FIXES, NEVER};
+use trails_tests::plain::kinds::CENTIMETRES;
+use trails_tests::plain::{Fix, Trail, MOST_FIXES};
 use trails_tests::questions::Moment;
 
-use crate::layout::{heading, microseconds, row, whole};
+use crate::layout::{heading, microseconds, row};
+use crate::sorts::{typical, SEED};
 use crate::timing::{by_turns, repeated, Run};
-use crate::trails::{typical, SEED};
 
 /// How many different questions of each sort a trail is asked.
 const DRAWN: usize = 512;
@@ -34,8 +36,8 @@ fn moment(fixes: &[Fix], random: &mut Random) -> Moment {
 fn crossing(fixes: &[Fix], random: &mut Random) -> Question {
     let (one, other) = (second(fixes, random), second(fixes, random));
     let near = random.pick(fixes);
-    let mut edges = |near: i16| {
-        let low = i32::from(near) + random.between(-1_500, 500) as i32;
+    let mut edges = |near: i32| {
+        let low = near + random.between(-1_500, 500) as i32;
         (low, low + random.between(100, 1_000) as i32)
     };
     let (left, right) = edges(near.x);
@@ -67,9 +69,9 @@ impl Inquiry {
         let mut random = Random::new(SEED);
         Inquiry {
             fixes: n,
-            record: record(NEVER, &fixes),
             moments: (0..DRAWN).map(|_| moment(&fixes, &mut random)).collect(),
             crossings: (0..DRAWN).map(|_| crossing(&fixes, &mut random)).collect(),
+            record: Trail::never_thinned(CENTIMETRES, fixes).bytes(),
         }
     }
 
@@ -105,8 +107,8 @@ impl Inquiry {
 
     fn rows(&self) {
         let times = by_turns(&mut [self.places(), self.crosses()]);
-        let fixes = whole(self.fixes as u64);
-        let cells = |time: f64| vec![whole((1.0 / time) as u64), microseconds(time)];
+        let fixes = in_threes(self.fixes as u64);
+        let cells = |time: f64| vec![in_threes((1.0 / time) as u64), microseconds(time)];
         row(&format!("places, {fixes} fixes"), &cells(times[0]));
         let mut crossings = cells(times[1]);
         crossings.push(format!("{} %", self.yes()));

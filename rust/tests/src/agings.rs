@@ -3,18 +3,20 @@
 use crate::cases::{Draft, Random};
 use crate::expected;
 use crate::interface::{self, Answer};
+use crate::plain::kinds::{Kind, KINDS};
 use crate::plain::lists::Call;
 use crate::plain::place::{Place, Time, FINEST};
-use crate::plain::{read, record_length, Fix, Trail, NEVER};
+use crate::plain::{read, Fix, Trail};
 
 impl Call {
-    /// Any call: small tolerances and the limits are likelier than others, and some are refused.
-    pub fn any(random: &mut Random) -> Call {
+    /// Any call: small tolerances and the limits of either kind are likelier than others, and some are refused.
+    pub fn any(kind: Kind, random: &mut Random) -> Call {
         let least = random.between(0, 12) as u16;
-        let low = random.between(0, 300) as u16;
+        let low = kind.times * random.between(0, 300) as u16;
         let high = random.between(0, 20_000) as u16;
         let any = random.between(0, 65_535) as u16;
-        let edge = random.pick(&[0, 1, 32_000, 32_001, 65_535]);
+        let [one, other] = KINDS.map(|kind| kind.top);
+        let edge = random.pick(&[0, 1, one, one + 1, other, other + 1, 65_535]);
         let days = random.pick(&[0, 1, 2, 6, 7, 29, 30, 89, 90, 65_535]);
         random.pick(&[
             Call::Tolerance(least),
@@ -46,9 +48,9 @@ impl Call {
 }
 
 /// A list of calls, which may be empty.
-pub fn some_calls(random: &mut Random) -> Vec<Call> {
+pub fn some_calls(kind: Kind, random: &mut Random) -> Vec<Call> {
     let many = random.between(0, 8);
-    (0..many).map(|_| Call::any(random)).collect()
+    (0..many).map(|_| Call::any(kind, random)).collect()
 }
 
 /// A lent buffer, and what to call it if a call on it goes wrong.
@@ -62,15 +64,11 @@ impl Buffer {
         Buffer { name, bytes }
     }
 
-    /// A buffer that begins with the record of these fixes and goes on for some bytes.
-    pub fn of(name: String, fixes: &[Fix], mark: u16, random: &mut Random) -> Buffer {
+    /// A buffer that begins with the record of this trail and goes on for some bytes.
+    pub fn of(name: String, trail: &Trail, random: &mut Random) -> Buffer {
         let more = random.between(0, 20) as usize;
-        let draft = Draft::new(fixes.to_vec(), mark, random.bytes(more));
+        let draft = Draft::new(trail.clone(), random.bytes(more));
         Buffer::new(name, draft.bytes())
-    }
-
-    pub fn never_thinned(name: String, fixes: &[Fix], random: &mut Random) -> Buffer {
-        Buffer::of(name, fixes, NEVER, random)
     }
 
     /// The record, which must be accepted.
@@ -89,7 +87,7 @@ impl Buffer {
         assert!(self.bytes == plain, "{name}: other bytes");
         // what document 01 says of each call's bytes, whatever the plain version does
         let stays = match answer.refusal {
-            0 => record_length(self.trail().fixes.len()),
+            0 => self.trail().bytes().len(),
             _ => 0,
         };
         assert!(self.bytes[stays..] == before[stays..], "{name}: the tail");

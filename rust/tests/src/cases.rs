@@ -1,6 +1,9 @@
 //! Records and lists of fixes to try, all from one seed.
 
-use crate::plain::{encode, record_length, Fix, Head, LONGEST, MOST_FIXES, NEVER};
+use std::collections::BTreeMap;
+
+use crate::plain::kinds::{Kind, CENTIMETRES, KINDS, MILLIMETRES};
+use crate::plain::{encode, Fix, Head, Trail, LONGEST, MOST_FIXES, NEVER};
 
 /// What a run tries: a fixed seed and count, unless TRAILS_SEED and TRAILS_CASES say otherwise.
 #[derive(Clone, Copy)]
@@ -63,10 +66,15 @@ impl Random {
 /// A time for each of n fixes: rising, and at most 65,535 seconds from first to last. One list in three has
 /// exactly that span; some begin at 0, and some end at the last second that 32 bits hold.
 pub fn times(random: &mut Random, n: usize) -> Vec<u32> {
-    let legs = n as i64 - 1;
     let whole = random.one_in(3);
+    times_within(65_535, whole, random, n)
+}
+
+/// The same within so many seconds, or with exactly that span.
+pub fn times_within(span: i64, whole: bool, random: &mut Random, n: usize) -> Vec<u32> {
+    let legs = n as i64 - 1;
     let mut offsets = vec![0];
-    let mut spare = 65_535 - legs;
+    let mut spare = span - legs;
     for left in (1..=legs).rev() {
         let extra = match (left, whole) {
             (1, true) => spare,
@@ -84,29 +92,42 @@ pub fn times(random: &mut Random, n: usize) -> Vec<u32> {
         .collect()
 }
 
-fn coordinate(random: &mut Random) -> i16 {
+fn coordinate(kind: Kind, random: &mut Random) -> i32 {
+    let limit = kind.limit;
     match random.between(0, 9) {
-        0 => -16_000,
-        1 => 16_000,
-        2 => random.between(-1, 1) as i16,
-        _ => random.between(-16_000, 16_000) as i16,
+        0 => -limit,
+        1 => limit,
+        2 => random.between(-1, 1) as i32,
+        _ => random.between((-limit).into(), limit.into()) as i32,
     }
 }
 
 /// An accepted list of n fixes.
-pub fn fixes(random: &mut Random, n: usize) -> Vec<Fix> {
+pub fn fixes(kind: Kind, random: &mut Random, n: usize) -> Vec<Fix> {
     let times = times(random, n);
     let place = |t| Fix {
         t,
-        x: coordinate(random),
-        y: coordinate(random),
+        x: coordinate(kind, random),
+        y: coordinate(kind, random),
     };
     times.into_iter().map(place).collect()
 }
 
+/// Coordinates outside the hall: next to it, as far as their bytes go, and where they are four, also some that two of
+/// them would have inside.
+fn outside(kind: Kind) -> Vec<i32> {
+    let wide = [i32::MIN, i32::MAX, 3 << 16, -(3 << 16)];
+    let narrow = [i16::MIN, i16::MAX].map(i32::from);
+    let far = match kind.width {
+        2 => &narrow[..],
+        _ => &wide[..],
+    };
+    [&[-kind.limit - 1, kind.limit + 1], far].concat()
+}
+
 /// Check 7 fails: a place outside the hall.
-fn misplace(fixes: &mut [Fix], random: &mut Random) {
-    let far = random.pick(&[-16_001, 16_001, i16::MIN, i16::MAX]);
+fn misplace(kind: Kind, fixes: &mut [Fix], random: &mut Random) {
+    let far = random.pick(&outside(kind));
     let at = random.between(0, fixes.len() as i64 - 1) as usize;
     if random.one_in(2) {
         fixes[at].x = far;
@@ -136,11 +157,16 @@ fn stretch(fixes: &mut [Fix], random: &mut Random) {
     }
 }
 
+/// A kind whose fixes are lent to its writer, in columns of four bytes whatever a record has.
+pub fn in_columns(kind: Kind) -> Kind {
+    Kind { width: 4, ..kind }
+}
+
 /// Makes the sentence of check 7, 8 or 9 true of two or more fixes that are accepted, or have faults of later
 /// checks only.
-pub fn spoil(fault: u8, fixes: &mut [Fix], random: &mut Random) {
+pub fn spoil(fault: u8, kind: Kind, fixes: &mut [Fix], random: &mut Random) {
     match fault {
-        7 => misplace(fixes, random),
+        7 => misplace(kind, fixes, random),
         8 => disorder(fixes, random),
         9 => stretch(fixes, random),
         other => panic!("no fault of fixes has the number {other}"),
@@ -151,6 +177,8 @@ pub fn spoil(fault: u8, fixes: &mut [Fix], random: &mut Random) {
 
 /// A record in the making, whose parts may be made wrong one by one.
 pub struct Draft {
+    /// what it is made as, whatever its head says then
+    pub kind: Kind,
     pub head: Head,
     pub fixes: Vec<Fix>,
     /// what the buffer has after the record
@@ -160,9 +188,11 @@ pub struct Draft {
 }
 
 impl Draft {
-    pub fn new(fixes: Vec<Fix>, mark: u16, tail: Vec<u8>) -> Draft {
+    pub fn new(trail: Trail, tail: Vec<u8>) -> Draft {
+        let Trail { kind, mark, fixes } = trail;
         Draft {
-            head: Head::of(mark, fixes.len()),
+            kind,
+            head: Head::of(kind, mark, fixes.len()),
             fixes,
             tail,
             lent: None,
@@ -170,18 +200,26 @@ impl Draft {
     }
 
     /// An accepted record of n fixes.
-    pub fn accepted(random: &mut Random, n: usize) -> Draft {
-        let fixes = fixes(random, n);
-        let tolerance = random.between(0, 32_000) as u16;
-        let mark = random.pick(&[NEVER, 0, 32_000, tolerance]);
+    pub fn accepted(kind: Kind, random: &mut Random, n: usize) -> Draft {
+        let fixes = fixes(kind, random, n);
+        let tolerance = random.between(0, kind.top.into()) as u16;
+        let mark = random.pick(&[NEVER, 0, kind.top, tolerance]);
         // half of the buffers end with their record
         let after = random.between(-20, 20).max(0) as usize;
         let tail = random.bytes(after);
-        Draft::new(fixes, mark, tail)
+        Draft::new(Trail { kind, mark, fixes }, tail)
+    }
+
+    /// A head that fits, and bytes as many as its fixes have and some more, with anything in them.
+    pub fn noise(kind: Kind, random: &mut Random, n: usize, more: usize) -> Draft {
+        let tail = random.bytes(kind.fix_bytes() * n + more);
+        let mut draft = Draft::new(Trail::never_thinned(kind, Vec::new()), tail);
+        draft.set_count(n as u16);
+        draft
     }
 
     pub fn bytes(&self) -> Vec<u8> {
-        let mut bytes = encode(self.head, &self.fixes);
+        let mut bytes = encode(self.kind, self.head, &self.fixes);
         bytes.extend(&self.tail);
         bytes.truncate(self.lent.unwrap_or(bytes.len()));
         bytes
@@ -189,16 +227,30 @@ impl Draft {
 
     fn set_count(&mut self, count: u16) {
         self.head.count = count;
-        self.head.length = record_length(count.into()) as u32;
+        self.head.length = self.kind.record_length(count.into()) as u32;
+    }
+
+    /// Says that it is of the other kind. Half of the time the length stays, and is wrong then; else it is the other
+    /// kind's of as many fixes, and bytes may follow, so that these are there in full.
+    pub fn claim_another_kind(&mut self, random: &mut Random) {
+        let other = another(self.kind);
+        let length = other.record_length(self.fixes.len());
+        self.head.kind = other.code;
+        if random.one_in(2) {
+            self.head.length = length as u32;
+            let more = random.pick(&[0, length]);
+            self.tail.extend(random.bytes(more));
+        }
     }
 
     /// Makes the sentence of a check true, and none of an earlier one. So of several faults made from the last to
     /// the first, the first is what the record is turned away for.
     pub fn spoil(&mut self, fault: u8, random: &mut Random) {
-        let length = record_length(self.head.count.into()) as u32;
+        let count = usize::from(self.head.count);
+        let length = self.kind.record_length(count) as u32;
         match fault {
             1 => self.lent = Some(random.between(0, 9) as usize),
-            2 => self.head.kind = random.pick(&[0, 2, 256, 257, 65_535]),
+            2 => self.head.kind = random.pick(&[0, 3, 256, 257, 258, 512, 65_535]),
             3 => {
                 // a length that was wrong already stays so
                 let wrong = (self.head.length != length).then_some(self.head.length);
@@ -211,7 +263,8 @@ impl Draft {
                     10,
                     length - 1,
                     length + 1,
-                    length + 8,
+                    length + self.kind.fix_bytes() as u32,
+                    another(self.kind).record_length(count) as u32,
                     length << 8,
                     u32::MAX,
                 ];
@@ -219,79 +272,124 @@ impl Draft {
             }
             5 => self.lent = Some(random.between(10, i64::from(length) - 1) as usize),
             6 => {
-                let inside = random.between(32_001, 65_534) as u16;
-                self.head.mark = random.pick(&[32_001, 65_534, inside]);
+                let above = self.kind.top + 1;
+                let inside = random.between(above.into(), 65_534) as u16;
+                self.head.mark = random.pick(&[above, 65_534, inside]);
             }
-            _ => spoil(fault, &mut self.fixes, random),
+            _ => spoil(fault, self.kind, &mut self.fixes, random),
         }
     }
 }
 
-/// A buffer that begins with the record of these fixes, marked never, and goes on.
-pub fn buffer(fixes: &[Fix]) -> Vec<u8> {
-    Draft::new(fixes.to_vec(), NEVER, vec![0xAB; 5]).bytes()
+/// The other of the two kinds.
+fn another(kind: Kind) -> Kind {
+    match kind {
+        CENTIMETRES => MILLIMETRES,
+        _ => CENTIMETRES,
+    }
+}
+
+/// A buffer that begins with the record of a trail, and goes on.
+pub fn buffer(trail: &Trail) -> Vec<u8> {
+    Draft::new(trail.clone(), vec![0xAB; 5]).bytes()
 }
 
 /// Lent bytes, and what they must be refused for if that is known beforehand: 0 is accepted.
 pub struct Case {
     pub name: String,
+    /// what they were made as
+    made: Kind,
     pub bytes: Vec<u8>,
     pub known: Option<u8>,
+}
+
+impl Case {
+    pub fn kind(&self) -> Kind {
+        kind_of(&self.bytes, self.made)
+    }
+}
+
+/// The kind whose limits the bytes are held to: the one that their head has. Of bytes that have none, what they were
+/// made as.
+pub fn kind_of(bytes: &[u8], made: Kind) -> Kind {
+    let code = bytes.get(..10).map(|head| [head[4], head[5]]);
+    let claimed = code.and_then(|code| Kind::with_code(u16::from_le_bytes(code)));
+    claimed.unwrap_or(made)
 }
 
 /// All cases of a run. Their names have the seed, so that a failed one can be had again.
 pub struct Cases {
     settings: Settings,
     random: Random,
+    kind: Kind,
     all: Vec<Case>,
 }
 
 impl Cases {
     pub fn all(settings: Settings) -> Vec<Case> {
-        let mut cases = Cases {
-            settings,
-            random: Random::new(settings.seed),
-            all: Vec::new(),
-        };
-        cases.sizes();
-        cases.edges();
-        cases.pairs();
-        cases.lengths();
-        cases.bits();
-        cases.noise();
-        cases.mixed();
-        cases.all
+        let mut all = Vec::new();
+        for kind in KINDS {
+            let mut cases = Cases {
+                settings,
+                random: Random::new(settings.seed),
+                kind,
+                all: Vec::new(),
+            };
+            cases.sizes();
+            cases.edges();
+            cases.pairs();
+            cases.lengths();
+            cases.other_kind();
+            cases.bits();
+            cases.noise();
+            cases.mixed();
+            all.append(&mut cases.all);
+        }
+        all
     }
 
     fn add(&mut self, name: String, bytes: Vec<u8>, known: Option<u8>) {
-        let name = format!("seed {}: {name}", self.settings.seed);
-        self.all.push(Case { name, bytes, known });
+        let (seed, made) = (self.settings.seed, self.kind);
+        self.all.push(Case {
+            name: format!("seed {seed}: {made}, {name}"),
+            made,
+            bytes,
+            known,
+        });
+    }
+
+    fn accepted(&mut self, n: usize) -> Draft {
+        Draft::accepted(self.kind, &mut self.random, n)
+    }
+
+    /// How many of the run's cases are this kind's.
+    fn share(&self) -> usize {
+        self.settings.cases / KINDS.len()
     }
 
     /// Accepted records of every size that matters.
     fn sizes(&mut self) {
         for n in [1, 2, 3, 4, 10, 255, 256, 257, 4_095, MOST_FIXES] {
-            for tail in [0, 1, 8, 70] {
-                let mut draft = Draft::accepted(&mut self.random, n);
+            for tail in [0, 1, self.kind.fix_bytes(), 70] {
+                let mut draft = self.accepted(n);
                 draft.tail = self.random.bytes(tail);
                 let name = format!("{n} fixes and {tail} bytes more");
                 self.add(name, draft.bytes(), Some(0));
             }
         }
-        let longest = Draft::accepted(&mut self.random, MOST_FIXES);
-        assert_eq!(longest.bytes().len() - longest.tail.len(), LONGEST);
+        let longest = self.accepted(MOST_FIXES);
+        let length = longest.bytes().len() - longest.tail.len();
+        assert_eq!(length == LONGEST, self.kind == MILLIMETRES);
     }
 
     /// Each limit met, and passed by one.
     fn edges(&mut self) {
         let fix = |t, x, y| Fix { t, x, y };
         let top = u32::MAX;
-        let trails = [
-            (0, vec![fix(0, -16_000, 16_000)]),
-            (0, vec![fix(top, 16_000, -16_000)]),
-            (7, vec![fix(0, -16_001, 0)]),
-            (7, vec![fix(0, 0, 16_001)]),
-            (7, vec![fix(5, 0, 0), fix(5, 0, 0), fix(9, i16::MIN, 0)]),
+        let most = self.kind.limit;
+        let mut trails = vec![
+            (0, vec![fix(0, -most, most)]),
+            (0, vec![fix(top, most, -most)]),
             (8, vec![fix(5, 0, 0), fix(5, 0, 0)]),
             (8, vec![fix(5, 0, 0), fix(4, 0, 0), fix(99_999, 0, 0)]),
             (8, vec![fix(top, 0, 0), fix(0, 0, 0)]),
@@ -301,18 +399,25 @@ impl Cases {
             (9, vec![fix(top - 65_536, 0, 0), fix(top, 0, 0)]),
             (9, vec![fix(0, 0, 0), fix(1, 0, 0), fix(top, 0, 0)]),
         ];
+        for far in outside(self.kind) {
+            let late = [fix(5, 0, 0), fix(5, 0, 0), fix(9, far, 0)];
+            let alone = [vec![fix(0, far, 0)], vec![fix(0, 0, far)], late.to_vec()];
+            trails.extend(alone.map(|fixes| (7, fixes)));
+        }
         for (number, fixes) in trails {
-            let name = format!("{fixes:?}");
-            self.add(
-                name,
-                Draft::new(fixes, NEVER, Vec::new()).bytes(),
-                Some(number),
-            );
+            self.edge(fixes, NEVER, number);
         }
-        for (number, mark) in [(0, 0), (0, 32_000), (6, 32_001), (6, 65_534), (0, NEVER)] {
-            let draft = Draft::new(vec![fix(1, 2, 3)], mark, Vec::new());
-            self.add(format!("mark {mark}"), draft.bytes(), Some(number));
+        let top = self.kind.top;
+        for (number, mark) in [(0, 0), (0, top), (6, top + 1), (6, 65_534), (0, NEVER)] {
+            self.edge(vec![fix(1, 2, 3)], mark, number);
         }
+    }
+
+    fn edge(&mut self, fixes: Vec<Fix>, mark: u16, known: u8) {
+        let name = format!("{fixes:?}, mark {mark}");
+        let kind = self.kind;
+        let bytes = Trail { kind, mark, fixes }.bytes();
+        self.add(name, bytes, Some(known));
     }
 
     /// Every fault, and every two at once: the earlier one's number is the answer.
@@ -330,7 +435,7 @@ impl Cases {
 
     /// A record of n fixes with these faults, the latest check's first.
     fn faults(&mut self, n: usize, faults: &[u8]) {
-        let mut draft = Draft::accepted(&mut self.random, n);
+        let mut draft = self.accepted(n);
         for &fault in faults {
             draft.spoil(fault, &mut self.random);
         }
@@ -342,13 +447,12 @@ impl Cases {
     /// Every number of lent bytes from none to past the record's end.
     fn lengths(&mut self) {
         for n in 1..=4 {
-            let draft = Draft::accepted(&mut self.random, n);
-            let mut bytes = draft.bytes();
-            bytes.extend([0xAB; 9]);
+            let mut bytes = self.accepted(n).bytes();
+            bytes.extend([0xAB; 13]);
             for lent in 0..=bytes.len() {
                 let known = match lent {
                     0..=9 => 1,
-                    _ if lent < record_length(n) => 5,
+                    _ if lent < self.kind.record_length(n) => 5,
                     _ => 0,
                 };
                 let name = format!("the first {lent} bytes of a record of {n} fixes");
@@ -357,9 +461,21 @@ impl Cases {
         }
     }
 
+    /// Records that say they are of the other kind. A record has another length in each, so if that stays it is wrong.
+    fn other_kind(&mut self) {
+        for n in 1..=30 {
+            let mut draft = self.accepted(n);
+            let before = draft.head.length;
+            draft.claim_another_kind(&mut self.random);
+            let known = (draft.head.length == before).then_some(4);
+            let name = format!("{n} fixes that say they are of the other kind");
+            self.add(name, draft.bytes(), known);
+        }
+    }
+
     /// Every single bit of a small record turned over: each field is damaged in every way that one bit can.
     fn bits(&mut self) {
-        let bytes = Draft::accepted(&mut self.random, 3).bytes();
+        let bytes = self.accepted(3).bytes();
         for bit in 0..8 * bytes.len() {
             let mut turned = bytes.clone();
             turned[bit / 8] ^= 1 << (bit % 8);
@@ -369,21 +485,19 @@ impl Cases {
 
     /// Random bytes, and a head that fits before random fixes.
     fn noise(&mut self) {
-        for k in 0..self.settings.cases {
+        for k in 0..self.share() {
             let size = self.random.between(0, 60) as usize;
             let bytes = self.random.bytes(size);
             self.add(format!("random bytes {k}"), bytes, None);
-            let n = self.random.between(1, 6) as u16;
-            let tail = self.random.bytes(record_length(n.into()) + size);
-            let mut draft = Draft::new(Vec::new(), NEVER, tail);
-            draft.set_count(n);
+            let n = self.random.between(1, 6) as usize;
+            let draft = Draft::noise(self.kind, &mut self.random, n, size);
             self.add(format!("random fixes {k}"), draft.bytes(), None);
         }
     }
 
     /// Records of random size with random faults, or none.
     fn mixed(&mut self) {
-        for _ in 0..self.settings.cases {
+        for _ in 0..self.share() {
             let n = self.random.between(2, 40) as usize;
             let most = self.random.between(0, 3);
             let mut faults: Vec<u8> = (0..most).map(|_| self.random.between(1, 9) as u8).collect();
@@ -394,22 +508,23 @@ impl Cases {
     }
 }
 
-/// How often each refusal was given, 0 for none, so that a test can say that all were reached.
+/// How often records of each kind were given each refusal, 0 for none, so that a test can say that all were reached.
 #[derive(Default)]
-pub struct Tally([usize; 16]);
+pub struct Tally(BTreeMap<(u16, u32), usize>);
 
 impl Tally {
-    pub fn count(&mut self, refusal: u32) {
-        self.0[refusal as usize] += 1;
+    pub fn count(&mut self, kind: Kind, refusal: u32) {
+        *self.0.entry((kind.code, refusal)).or_default() += 1;
     }
 
-    /// Prints the counts and fails if one of these refusals, or none at all, was never given.
-    pub fn expect(&self, what: &str, refusals: &[usize]) {
-        println!("{what}: accepted {}", self.0[0]);
-        assert!(self.0[0] > 0, "{what}: nothing was accepted");
-        for &refusal in refusals {
-            println!("{what}: refusal {refusal} given {} times", self.0[refusal]);
-            assert!(self.0[refusal] > 0, "{what}: refusal {refusal} never given");
+    /// Prints the counts and fails if one of these refusals, or none at all, was never given to a kind.
+    pub fn expect(&self, what: &str, refusals: &[u32]) {
+        for kind in KINDS {
+            for &refusal in [&[0], refusals].concat().iter() {
+                let many = self.0.get(&(kind.code, refusal)).copied().unwrap_or(0);
+                println!("{what}, {kind}: refusal {refusal} given {many} times");
+                assert!(many > 0, "{what}, {kind}: refusal {refusal} never given");
+            }
         }
     }
 }

@@ -7,8 +7,8 @@ use crate::plain::Fix;
 #[derive(Clone, Debug, PartialEq, Eq)]
 pub struct Columns {
     pub t: Vec<u32>,
-    pub x: Vec<i16>,
-    pub y: Vec<i16>,
+    pub x: Vec<i32>,
+    pub y: Vec<i32>,
 }
 
 impl Columns {
@@ -22,7 +22,7 @@ impl Columns {
 
     /// Columns of these lengths, with anything in them.
     pub fn any([t, x, y]: [usize; 3], random: &mut Random) -> Columns {
-        let mut coordinates = |n| (0..n).map(|_| random.between(-9, 9) as i16).collect();
+        let mut coordinates = |n| (0..n).map(|_| random.between(-9, 9) as i32).collect();
         let (x, y) = (coordinates(x), coordinates(y));
         let t = (0..t).map(|_| random.between(0, 99) as u32).collect();
         Columns { t, x, y }

@@ -1,18 +1,20 @@
 //! One operation on one lent buffer, by the proved functions and by the plain version: what each answers, and what is
-//! lent afterwards. `draw` draws such cases, `twin` moves one in time, `minimise` makes one smaller, and `table` counts
-//! what was met.
+//! lent afterwards. `draw` draws such cases, `twin` moves one in time, `tenfold` has one in millimetres, `minimise`
+//! makes one smaller, and `table` counts what was met.
 
 pub mod draw;
 pub mod minimise;
 pub mod table;
+pub mod tenfold;
 pub mod twin;
 
-use crate::cases::{Random, Settings};
+use crate::cases::{kind_of, Random, Settings};
 use crate::columns::Columns;
 use crate::expected;
 use crate::interface::{self, Answer, Crossing, Head, Place, Run, Step, LONGEST_TEXT};
 use crate::plain;
 use crate::plain::crossing::{self, Question};
+use crate::plain::kinds::{Kind, CENTIMETRES};
 use crate::plain::lists::{self, Call};
 use crate::plain::place::Time;
 use crate::questions::Moment;
@@ -25,8 +27,8 @@ pub enum Operation {
     Read(Vec<usize>),
     /// the columns to fill, with what is in them beforehand
     ReadAll(Columns),
-    /// the buffer is the output
-    Write(Columns),
+    /// by the writer of this kind; the buffer is the output
+    Write(Kind, Columns),
     List,
     Age(u16),
     Days(u16),
@@ -40,6 +42,16 @@ pub enum Operation {
 pub struct Case {
     pub buffer: Vec<u8>,
     pub operation: Operation,
+}
+
+impl Case {
+    /// The kind whose limits hold: the writer's, or the record's. Of bytes that have none, what they were made as.
+    fn kind(&self, made: Kind) -> Kind {
+        match self.operation {
+            Operation::Write(kind, _) => kind,
+            _ => kind_of(&self.buffer, made),
+        }
+    }
 }
 
 /// What an operation answers.
@@ -76,8 +88,25 @@ pub enum Crossed {
     Refused(u32),
     No,
     Yes(Time),
-    /// what no answer may be: a denominator that isn't from 1 to 32,000, or a no or a refusal that carries something
+    /// what no answer may be: a denominator that the record's kind can't have, or a no or a refusal that carries
+    /// something
     Never(Crossing),
+}
+
+impl Crossed {
+    /// What is answered about a record of this kind.
+    pub fn of(kind: Kind, answer: Crossing) -> Crossed {
+        let denominators = 1..=u64::from(kind.denominator);
+        match interface::numbers(answer) {
+            [0, 0, 0, 0] => Crossed::No,
+            [_, 0, 0, 0] => Crossed::Refused(answer.refusal),
+            [0, 1, p, q] if denominators.contains(&q) => Crossed::Yes(Time {
+                p: p.into(),
+                q: q.into(),
+            }),
+            _ => Crossed::Never(answer),
+        }
+    }
 }
 
 impl PartialEq for Crossed {
@@ -87,20 +116,6 @@ impl PartialEq for Crossed {
             (Crossed::No, Crossed::No) => true,
             (Crossed::Yes(one), Crossed::Yes(other)) => one.order(other).is_eq(),
             _ => false,
-        }
-    }
-}
-
-impl From<Crossing> for Crossed {
-    fn from(answer: Crossing) -> Crossed {
-        match interface::numbers(answer) {
-            [0, 0, 0, 0] => Crossed::No,
-            [refusal, 0, 0, 0] => Crossed::Refused(refusal),
-            [0, 1, numerator, denominator @ 1..=32_000] => Crossed::Yes(Time {
-                p: numerator.into(),
-                q: denominator.into(),
-            }),
-            _ => Crossed::Never(answer),
         }
     }
 }
@@ -136,6 +151,7 @@ fn blank() -> Box<[u8; LONGEST_TEXT]> {
 pub fn proved(case: &Case) -> Outcome {
     let mut after = case.clone();
     let mut text = Vec::new();
+    let crossed = |answer| Reply::Crossing(Crossed::of(case.kind(CENTIMETRES), answer));
     let buffer = &mut after.buffer;
     let reply = match &mut after.operation {
         Operation::Check => Reply::Head(interface::check(buffer)),
@@ -144,7 +160,7 @@ pub fn proved(case: &Case) -> Outcome {
             Reply::Steps(positions.iter().map(step).collect())
         }
         Operation::ReadAll(columns) => Reply::Answer(interface::read_all(buffer, columns)),
-        Operation::Write(Columns { t, x, y }) => Reply::Answer(interface::write(t, x, y, buffer)),
+        Operation::Write(kind, columns) => Reply::Answer(interface::write(*kind, columns, buffer)),
         Operation::List => {
             let mut output = blank();
             let length = interface::list(buffer, &mut output);
@@ -158,11 +174,9 @@ pub fn proved(case: &Case) -> Outcome {
             second,
             thousandths,
         }) => Reply::Place(interface::place(buffer, *second, *thousandths)),
-        Operation::Crosses(question) => {
-            Reply::Crossing(interface::crosses(buffer, question).into())
-        }
+        Operation::Crosses(question) => crossed(interface::crosses(buffer, question)),
         Operation::CrossesAfter(calls, question) => {
-            Reply::Crossing(interface::crosses_after(buffer, calls, question).into())
+            crossed(interface::crosses_after(buffer, calls, question))
         }
     };
     Outcome { reply, after, text }
@@ -180,7 +194,9 @@ pub fn plain(case: &Case) -> Outcome {
             Reply::Steps(positions.iter().map(step).collect())
         }
         Operation::ReadAll(columns) => Reply::Answer(expected::read_all(buffer, columns)),
-        Operation::Write(columns) => Reply::Answer(expected::write(&columns.fixes(), buffer)),
+        Operation::Write(kind, columns) => {
+            Reply::Answer(expected::write(*kind, &columns.fixes(), buffer))
+        }
         Operation::List => {
             let listing = plain::listing(buffer).into_bytes();
             text = blank().to_vec();
@@ -220,25 +236,34 @@ impl Sides<'_> {
     fn twins_differ(&self, case: &Case) -> bool {
         twin::differing(self.proved, case).is_some()
     }
+
+    /// Whether it answers the case in millimetres otherwise.
+    fn tenfold_differs(&self, case: &Case) -> bool {
+        tenfold::differing(self.proved, case).is_some()
+    }
 }
 
-/// Draws cases until all are tried or one shows a difference, between the sides or from a twin, which is given back as
-/// small as it can be made and still shows that.
+/// Draws cases until all are tried or one shows a difference, between the sides, from a twin or from the same in
+/// millimetres, which is given back as small as it can be made and still shows that.
 pub fn run(settings: Settings, sides: Sides) -> Result<table::Table, Box<Case>> {
     let mut random = Random::new(settings.seed);
     let mut table = table::Table::default();
     let smallest =
         |case, differs: &dyn Fn(&Case) -> bool| Err(Box::new(minimise::minimised(case, differs)));
     for _ in 0..settings.cases {
-        let case = draw::case(&mut random);
+        let draw::Drawn { made, case } = draw::drawn(&mut random);
         let Some(outcome) = sides.agreed(&case) else {
             return smallest(case, &|case| sides.agreed(case).is_none());
         };
         if sides.twins_differ(&case) {
             return smallest(case, &|case| sides.twins_differ(case));
         }
-        table.count(&case, &outcome.reply);
+        if sides.tenfold_differs(&case) {
+            return smallest(case, &|case| sides.tenfold_differs(case));
+        }
+        table.count(&case, made, &outcome.reply);
         table.twins += twin::shifts(&case).len();
+        table.tenfold += usize::from(tenfold::tenfold(&case).is_some());
     }
     Ok(table)
 }

@@ -2,9 +2,10 @@
 
 use crate::columns::Columns;
 use crate::interface::{Answer, Head, Place, Run, Step};
+use crate::plain::kinds::Kind;
 use crate::plain::lists::Call;
 use crate::plain::moment::Whereabouts;
-use crate::plain::{self, lists, moment, Fix};
+use crate::plain::{self, lists, moment, Fix, Trail};
 
 /// A refusal's number, 0 for none, and beside it what is answered where there is none, or nothing.
 fn told<T: Default>(result: Result<T, u8>) -> (u32, T) {
@@ -20,38 +21,48 @@ fn answer(result: Result<u32, u8>) -> Answer {
 }
 
 pub fn check(lent: &[u8]) -> Head {
-    let facts = |trail: plain::Trail| (trail.fixes.len() as u32, trail.mark.into());
-    let (refusal, (count, mark)) = told(plain::read(lent).map(facts));
+    let facts = |trail: Trail| {
+        let count = trail.fixes.len() as u32;
+        (trail.kind.code.into(), count, trail.mark.into())
+    };
+    let (refusal, (kind, count, mark)) = told(plain::read(lent).map(facts));
     Head {
         refusal,
+        kind,
         count,
         mark,
     }
 }
 
 pub fn read(lent: &[u8], position: usize) -> Step {
-    let trail = plain::read(lent);
-    let (refusal, found) = told(trail.map(|trail| trail.fixes.get(position).copied()));
-    let step = found.map_or(Step::default(), |Fix { t, x, y }| Step {
-        refusal: 0,
-        found: 1,
-        t,
-        x: x.into(),
-        y: y.into(),
-    });
-    Step { refusal, ..step }
+    let fix = |trail: &Trail| {
+        let Fix { t, x, y } = *trail.fixes.get(position)?;
+        Some(Step {
+            refusal: 0,
+            found: 1,
+            kind: trail.kind.code.into(),
+            t,
+            x,
+            y,
+        })
+    };
+    let (refusal, found) = told(plain::read(lent).map(|trail| fix(&trail)));
+    Step {
+        refusal,
+        ..found.unwrap_or_default()
+    }
 }
 
 pub fn read_all(lent: &[u8], columns: &mut Columns) -> Answer {
-    let filled = |trail: plain::Trail| {
+    let filled = |trail: Trail| {
         columns.fill(&trail.fixes);
         trail.fixes.len() as u32
     };
     answer(plain::read(lent).map(filled))
 }
 
-pub fn write(list: &[Fix], output: &mut [u8]) -> Answer {
-    answer(plain::write(list, output).map(|length| length as u32))
+pub fn write(kind: Kind, list: &[Fix], output: &mut [u8]) -> Answer {
+    answer(plain::write(kind, list, output).map(|length| length as u32))
 }
 
 pub fn aging(lent: &mut [u8], call: Call) -> Answer {
@@ -59,7 +70,7 @@ pub fn aging(lent: &mut [u8], call: Call) -> Answer {
 }
 
 pub fn place(lent: &[u8], second: u32, thousandths: u16) -> Place {
-    const FITS: &str = "it fits, says document 01";
+    const FITS: &str = "it fits, say the documents";
     let found = |found: Whereabouts| Place {
         refusal: 0,
         denominator: found.denominator.try_into().expect(FITS),

@@ -2,14 +2,25 @@
 
 use trails::interface as offered;
 
-pub use offered::{age, age_by_days, check, list, place, read, run, write};
+pub use offered::{age, age_by_days, check, list, place, read, run};
 pub use offered::{Answer, Crossing, Head, Place, Run, Step, LONGEST_TEXT};
 
 use crate::columns::Columns;
 use crate::plain::crossing::Question;
+use crate::plain::kinds::{Kind, CENTIMETRES};
 
 pub fn read_all(record: &[u8], columns: &mut Columns) -> Answer {
     offered::read_all(record, &mut columns.t, &mut columns.x, &mut columns.y)
+}
+
+/// By the writer of this kind.
+pub fn write(kind: Kind, columns: &Columns, output: &mut [u8]) -> Answer {
+    let Columns { t, x, y } = columns;
+    let write = match kind {
+        CENTIMETRES => offered::write,
+        _ => offered::write_millimetres,
+    };
+    write(t, x, y, output)
 }
 
 /// A question as it is lent to the interface.
@@ -26,14 +37,19 @@ fn asked(question: &Question) -> offered::Question {
 }
 
 /// All that an answer to the crossing question says: refusal, yes, numerator and denominator.
-pub fn numbers(answer: Crossing) -> [u32; 4] {
+pub fn numbers(answer: Crossing) -> [u64; 4] {
     let Crossing {
         refusal,
         crosses,
         numerator,
         denominator,
     } = answer;
-    [refusal, crosses, numerator, denominator]
+    [
+        refusal.into(),
+        crosses.into(),
+        numerator,
+        denominator.into(),
+    ]
 }
 
 pub fn crosses(record: &[u8], question: &Question) -> Crossing {

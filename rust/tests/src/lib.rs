@@ -1,7 +1,7 @@
-//! The proved functions beside a plain Rust version of document 01, on many records.
+//! The proved functions beside a plain Rust version of documents 01 and 02, on many records of both kinds.
 //!
 //! The proofs say that each function equals its definition. These tests ask what no proof can say: that the
-//! definitions mean what somebody else reads in document 01, and that the compiled archive and the C interface
+//! definitions mean what somebody else reads in the documents, and that the compiled archive and the C interface
 //! hand the numbers over unharmed.
 #![forbid(unsafe_code)]
 

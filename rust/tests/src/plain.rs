@@ -1,15 +1,18 @@
-//! A plain version of document 01: the trail record with its checks, reader, writer and listing here, thinning and
-//! aging in `thinning`, lists of agings in `lists`, places at fractional times in `place`, and the two questions in
-//! `moment` and `crossing`.
+//! A plain version of document 01 and of what document 02 has changed since: the trail record with its checks, reader,
+//! writers and listing here, its two kinds in `kinds`, thinning and aging in `thinning`, lists of agings in `lists`,
+//! places at fractional times in `place`, and the two questions in `moment` and `crossing`.
 //!
-//! It follows document 01's sentences one by one. It takes nothing from the proved code, so that a misreading there
+//! It follows the documents' sentences one by one. It takes nothing from the proved code, so that a misreading there
 //! would show as a difference here.
 
 pub mod crossing;
+pub mod kinds;
 pub mod lists;
 pub mod moment;
 pub mod place;
 pub mod thinning;
+
+use kinds::Kind;
 
 /// The mark of a trail that was never thinned.
 pub const NEVER: u16 = 65_535;
@@ -18,29 +21,29 @@ pub const NEVER: u16 = 65_535;
 pub const MOST_FIXES: usize = 4_096;
 
 /// The most bytes of a record, and the most that the listing reads.
-pub const LONGEST: usize = 32_778;
+pub const LONGEST: usize = 49_162;
 
 const HEAD: usize = 10;
-const FIX: usize = 8;
-const HALL: std::ops::RangeInclusive<i16> = -16_000..=16_000;
 
+/// A time in seconds, and a place in the record's unit.
 #[derive(Clone, Copy, Debug, PartialEq, Eq)]
 pub struct Fix {
     pub t: u32,
-    pub x: i16,
-    pub y: i16,
+    pub x: i32,
+    pub y: i32,
 }
 
 /// Time, x and y, as trails are written by hand.
-impl From<(u32, i16, i16)> for Fix {
-    fn from((t, x, y): (u32, i16, i16)) -> Fix {
+impl From<(u32, i32, i32)> for Fix {
+    fn from((t, x, y): (u32, i32, i32)) -> Fix {
         Fix { t, x, y }
     }
 }
 
-/// An accepted record.
-#[derive(Debug, PartialEq, Eq)]
+/// What an accepted record holds.
+#[derive(Clone, Debug, PartialEq, Eq)]
 pub struct Trail {
+    pub kind: Kind,
     pub mark: u16,
     pub fixes: Vec<Fix>,
 }
@@ -54,10 +57,6 @@ pub struct Head {
     pub count: u16,
 }
 
-pub fn record_length(fixes: usize) -> usize {
-    HEAD + FIX * fixes
-}
-
 fn two(bytes: &[u8], at: usize) -> u16 {
     u16::from_le_bytes([bytes[at], bytes[at + 1]])
 }
@@ -68,10 +67,10 @@ fn four(bytes: &[u8], at: usize) -> u32 {
 
 impl Head {
     /// The head of a record of so many fixes.
-    pub fn of(mark: u16, count: usize) -> Head {
+    pub fn of(kind: Kind, mark: u16, count: usize) -> Head {
         Head {
-            length: record_length(count) as u32,
-            kind: 1,
+            length: kind.record_length(count) as u32,
+            kind: kind.code,
             mark,
             count: count as u16,
         }
@@ -88,33 +87,46 @@ impl Head {
 }
 
 impl Fix {
-    fn decode(bytes: &[u8]) -> Fix {
+    fn decode(kind: Kind, bytes: &[u8]) -> Fix {
+        let coordinate = |at: usize| match kind.width {
+            2 => i32::from(two(bytes, at) as i16),
+            _ => four(bytes, at) as i32,
+        };
         Fix {
             t: four(bytes, 0),
-            x: two(bytes, 4) as i16,
-            y: two(bytes, 6) as i16,
+            x: coordinate(4),
+            y: coordinate(4 + kind.width),
         }
     }
 }
 
-/// The bytes of a head and fixes, which need not fit each other.
-pub fn encode(head: Head, fixes: &[Fix]) -> Vec<u8> {
-    let mut bytes = Vec::with_capacity(record_length(fixes.len()));
+/// The bytes of a head and of fixes as this kind has them, which need not fit each other.
+pub fn encode(kind: Kind, head: Head, fixes: &[Fix]) -> Vec<u8> {
+    let mut bytes = Vec::with_capacity(kind.record_length(fixes.len()));
     bytes.extend(head.length.to_le_bytes());
     bytes.extend(head.kind.to_le_bytes());
     bytes.extend(head.mark.to_le_bytes());
     bytes.extend(head.count.to_le_bytes());
     for fix in fixes {
         bytes.extend(fix.t.to_le_bytes());
-        bytes.extend(fix.x.to_le_bytes());
-        bytes.extend(fix.y.to_le_bytes());
+        // in two's complement a number that fits fewer bytes has its lowest ones there
+        bytes.extend(&fix.x.to_le_bytes()[..kind.width]);
+        bytes.extend(&fix.y.to_le_bytes()[..kind.width]);
     }
     bytes
 }
 
-/// The record of a list of fixes.
-pub fn record(mark: u16, fixes: &[Fix]) -> Vec<u8> {
-    encode(Head::of(mark, fixes.len()), fixes)
+impl Trail {
+    pub fn never_thinned(kind: Kind, fixes: Vec<Fix>) -> Trail {
+        let mark = NEVER;
+        Trail { kind, mark, fixes }
+    }
+
+    /// The record.
+    pub fn bytes(&self) -> Vec<u8> {
+        let head = Head::of(self.kind, self.mark, self.fixes.len());
+        encode(self.kind, head, &self.fixes)
+    }
 }
 
 fn refuse_if(number: u8, sentence: bool) -> Result<(), u8> {
@@ -130,8 +142,8 @@ fn bad_count(count: usize) -> bool {
 }
 
 /// Checks 7 to 9.
-fn check_fixes(fixes: &[Fix]) -> Result<(), u8> {
-    let outside = |fix: &Fix| !HALL.contains(&fix.x) || !HALL.contains(&fix.y);
+fn check_fixes(kind: Kind, fixes: &[Fix]) -> Result<(), u8> {
+    let outside = |fix: &Fix| kind.is_outside(fix.x) || kind.is_outside(fix.y);
     refuse_if(7, fixes.iter().any(outside))?;
     refuse_if(8, fixes.windows(2).any(|pair| pair[1].t <= pair[0].t))?;
     let time = |fix: Option<&Fix>| fix.map_or(0, |fix| i64::from(fix.t));
@@ -141,28 +153,30 @@ fn check_fixes(fixes: &[Fix]) -> Result<(), u8> {
 /// The record that the lent bytes begin with, or the number of the refusal: checks 1 to 9.
 pub fn read(lent: &[u8]) -> Result<Trail, u8> {
     let head = Head::decode(lent).ok_or(1)?;
+    let kind = Kind::with_code(head.kind).ok_or(2)?;
     let count = usize::from(head.count);
-    refuse_if(2, head.kind != 1)?;
     refuse_if(3, bad_count(count))?;
-    refuse_if(4, head.length as usize != record_length(count))?;
+    refuse_if(4, head.length as usize != kind.record_length(count))?;
     refuse_if(5, lent.len() < head.length as usize)?;
-    refuse_if(6, head.mark > 32_000 && head.mark != NEVER)?;
-    let all = lent[HEAD..record_length(count)].chunks_exact(FIX);
-    let fixes: Vec<Fix> = all.map(Fix::decode).collect();
-    check_fixes(&fixes)?;
+    refuse_if(6, head.mark > kind.top && head.mark != NEVER)?;
+    let all = lent[HEAD..kind.record_length(count)].chunks_exact(kind.fix_bytes());
+    let fixes: Vec<Fix> = all.map(|bytes| Fix::decode(kind, bytes)).collect();
+    check_fixes(kind, &fixes)?;
     Ok(Trail {
+        kind,
         mark: head.mark,
         fixes,
     })
 }
 
-/// The writer, which makes checks 3, 7, 8, 9 and 15 and answers the record's length.
-pub fn write(fixes: &[Fix], output: &mut [u8]) -> Result<usize, u8> {
-    let length = record_length(fixes.len());
+/// The writer of a kind, which makes checks 3, 7, 8, 9 and 15 and answers the record's length.
+pub fn write(kind: Kind, fixes: &[Fix], output: &mut [u8]) -> Result<usize, u8> {
+    let length = kind.record_length(fixes.len());
     refuse_if(3, bad_count(fixes.len()))?;
-    check_fixes(fixes)?;
+    check_fixes(kind, fixes)?;
     refuse_if(15, output.len() < length)?;
-    output[..length].copy_from_slice(&record(NEVER, fixes));
+    let trail = Trail::never_thinned(kind, fixes.to_vec());
+    output[..length].copy_from_slice(&trail.bytes());
     Ok(length)
 }
 
@@ -175,7 +189,7 @@ fn received(input: &[u8]) -> Result<Trail, String> {
 /// What the program that writes records anew prints: the record, marked never and with nothing after it.
 pub fn rewritten(input: &[u8]) -> Vec<u8> {
     match received(input) {
-        Ok(trail) => record(NEVER, &trail.fixes),
+        Ok(trail) => Trail::never_thinned(trail.kind, trail.fixes).bytes(),
         Err(line) => line.into_bytes(),
     }
 }

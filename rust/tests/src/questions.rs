@@ -1,11 +1,12 @@
 //! Questions to try about a trail, good and bad, and the proved answers held to the plain version's.
 
-use crate::cases::{buffer, fixes, Cases, Random, Settings, Tally};
+use crate::cases::{buffer, fixes, kind_of, Cases, Random, Settings, Tally};
 use crate::expected;
 use crate::interface::{self, Crossing};
 use crate::plain::crossing::{self, Area, Question, Window};
+use crate::plain::kinds::{Kind, CENTIMETRES, KINDS};
 use crate::plain::place::Time;
-use crate::plain::{self, Fix};
+use crate::plain::{self, Fix, Trail};
 use crate::shapes::{trail, SHAPES};
 
 fn ends(fixes: &[Fix]) -> (u32, u32) {
@@ -27,18 +28,19 @@ fn second(fixes: &[Fix], random: &mut Random) -> u32 {
 /// A question that can be asked of a trail.
 pub trait Asked: Sized + std::fmt::Debug {
     /// One that no check turns away.
-    fn good(fixes: &[Fix], random: &mut Random) -> Self;
+    fn good(trail: &Trail, random: &mut Random) -> Self;
 
     /// Makes the sentence of this check true.
-    fn spoil(&mut self, fault: u8, fixes: &[Fix], random: &mut Random);
+    fn spoil(&mut self, fault: u8, trail: &Trail, random: &mut Random);
 
     /// A question with these faults about the record. Of one that is turned away, any question will do.
     fn spoiled(record: &[u8], faults: &[u8], random: &mut Random) -> Self {
-        let trail = plain::read(record);
-        let fixes = trail.map_or_else(|_| fixes(random, 2), |trail| trail.fixes);
-        let mut question = Self::good(&fixes, random);
+        let kind = kind_of(record, CENTIMETRES);
+        let trail = plain::read(record)
+            .unwrap_or_else(|_| Trail::never_thinned(kind, fixes(kind, random, 2)));
+        let mut question = Self::good(&trail, random);
         for &fault in faults {
-            question.spoil(fault, &fixes, random);
+            question.spoil(fault, &trail, random);
         }
         question
     }
@@ -63,23 +65,24 @@ pub fn refused_in_order<Q: Asked>(
                 let known = if known == 0 { fault } else { known };
                 assert_eq!(refusal, known.into(), "{name}, {question:?}");
             }
-            tally.count(refusal);
+            tally.count(case.kind(), refusal);
         }
     }
 }
 
-/// Asks trails of every shape, most of them short, ten good questions each.
-pub fn asked_of_every_shape<Q: Asked>(mut ask: impl FnMut(&[Fix], &[u8], Q, &str)) {
+/// Asks trails of every kind and shape, most of them short, ten good questions each.
+pub fn asked_of_every_shape<Q: Asked>(mut ask: impl FnMut(&Trail, &[u8], Q, &str)) {
     let settings = Settings::get();
     let mut random = Random::new(settings.seed);
     for k in 0..settings.cases {
         let shape = SHAPES[k % SHAPES.len()];
+        let kind = random.pick(&KINDS);
         let n = random.between(1, if k.is_multiple_of(20) { 400 } else { 12 });
-        let fixes = trail(shape, n as usize, &mut random);
-        let bytes = buffer(&fixes);
-        let name = format!("seed {}: {shape:?}, {n} fixes", settings.seed);
+        let trail = trail(kind, shape, n as usize, &mut random);
+        let bytes = buffer(&trail);
+        let name = format!("seed {}: {kind}, {shape:?}, {n} fixes", settings.seed);
         for _ in 0..10 {
-            ask(&fixes, &bytes, Q::good(&fixes, &mut random), &name);
+            ask(&trail, &bytes, Q::good(&trail, &mut random), &name);
         }
     }
 }
@@ -95,14 +98,14 @@ pub struct Moment {
 
 impl Asked for Moment {
     /// From the first fix to the last.
-    fn good(fixes: &[Fix], random: &mut Random) -> Moment {
-        let second = second(fixes, random);
+    fn good(trail: &Trail, random: &mut Random) -> Moment {
+        let second = second(&trail.fixes, random);
         let any = random.between(0, 999) as u16;
         let thousandths = random.pick(&[0, 0, 1, 499, 500, 501, 999, any, any]);
         Moment {
             second,
             // no thousandth is left after the last second
-            thousandths: if second == ends(fixes).1 {
+            thousandths: if second == ends(&trail.fixes).1 {
                 0
             } else {
                 thousandths
@@ -111,8 +114,8 @@ impl Asked for Moment {
     }
 
     /// Makes the sentence of check 12 true and not that of 11, or that of 11 true.
-    fn spoil(&mut self, fault: u8, fixes: &[Fix], random: &mut Random) {
-        let (first, last) = ends(fixes);
+    fn spoil(&mut self, fault: u8, trail: &Trail, random: &mut Random) {
+        let (first, last) = ends(&trail.fixes);
         match fault {
             11 => {
                 // thousandths that would be good in 8 or 10 bits are among them
@@ -191,23 +194,24 @@ impl Window {
     }
 }
 
-/// An edge: a place of the trail, one centimetre off or some, a wall, or any.
-fn edge(places: &[i32], random: &mut Random) -> i32 {
+/// An edge: a place of the trail, one off or some, a wall, or any.
+fn edge(kind: Kind, places: &[i32], random: &mut Random) -> i32 {
+    let limit = kind.limit;
     let place = random.pick(places);
     let off = random.between(-1, 1) as i32;
-    let far = random.between(-600, 600) as i32;
-    let wall = random.pick(&[-16_000, 16_000]);
-    let any = random.between(-16_000, 16_000) as i32;
+    let far = i32::from(kind.times) * random.between(-600, 600) as i32;
+    let wall = random.pick(&[-limit, limit]);
+    let any = random.between((-limit).into(), limit.into()) as i32;
     let edge = random.pick(&[place, place, place + off, place + far, wall, any]);
-    edge.clamp(-16_000, 16_000)
+    edge.clamp(-limit, limit)
 }
 
 /// A low edge and a high one, which in one of four are the same.
-fn edges(places: &[i32], random: &mut Random) -> (i32, i32) {
-    let one = edge(places, random);
+fn edges(kind: Kind, places: &[i32], random: &mut Random) -> (i32, i32) {
+    let one = edge(kind, places, random);
     let other = match random.between(0, 3) {
         0 => one,
-        _ => edge(places, random),
+        _ => edge(kind, places, random),
     };
     (one.min(other), one.max(other))
 }
@@ -223,19 +227,23 @@ impl Area {
     }
 
     /// A box with its edges at or about the trail's places, so that many are touched or hardly missed.
-    fn good(fixes: &[Fix], random: &mut Random) -> Area {
+    fn good(trail: &Trail, random: &mut Random) -> Area {
+        let Trail { kind, fixes, .. } = trail;
         // a few neighbours, so that small boxes are near the trail on both axes
         let at = random.between(0, fixes.len() as i64 - 1) as usize;
         let some = &fixes[at..fixes.len().min(at + 3)];
-        let x: Vec<i32> = some.iter().map(|fix| fix.x.into()).collect();
-        let y: Vec<i32> = some.iter().map(|fix| fix.y.into()).collect();
-        Area::new(edges(&x, random), edges(&y, random))
+        let x: Vec<i32> = some.iter().map(|fix| fix.x).collect();
+        let y: Vec<i32> = some.iter().map(|fix| fix.y).collect();
+        Area::new(edges(*kind, &x, random), edges(*kind, &y, random))
     }
 
-    fn spoil(&mut self, random: &mut Random) {
-        // 65,536 and its like would be good if they were cut to 16 bits
-        let below = random.pick(&[-16_001, -65_536, -40_000, i32::MIN]);
-        let above = random.pick(&[16_001, 65_536, 40_000, i32::MAX]);
+    fn spoil(&mut self, kind: Kind, random: &mut Random) {
+        let limit = kind.limit;
+        // multiples of 65,536 would be good if they were cut to 16 bits
+        let below = random.pick(&[-limit - 1, -(16 << 16), -3 * limit, i32::MIN]);
+        let above = random.pick(&[limit + 1, 16 << 16, 3 * limit, i32::MAX]);
+        // so that one less is an edge too
+        let (right, top) = (self.right.max(1 - limit), self.top.max(1 - limit));
         match random.between(0, 9) {
             0 => self.left = below,
             1 => self.right = above,
@@ -245,33 +253,33 @@ impl Area {
             5 => (self.left, self.right) = (below, below),
             6 => (self.bottom, self.top) = (above, above),
             7 => (self.bottom, self.top) = (below, below),
-            8 => (self.left, self.right) = (self.right.max(-15_999), self.right.max(-15_999) - 1),
-            _ => (self.bottom, self.top) = (self.top.max(-15_999), self.top.max(-15_999) - 1),
+            8 => (self.left, self.right) = (right, right - 1),
+            _ => (self.bottom, self.top) = (top, top - 1),
         }
     }
 }
 
 impl Asked for Question {
-    fn good(fixes: &[Fix], random: &mut Random) -> Question {
+    fn good(trail: &Trail, random: &mut Random) -> Question {
         Question {
-            window: Window::good(fixes, random),
-            area: Area::good(fixes, random),
+            window: Window::good(&trail.fixes, random),
+            area: Area::good(trail, random),
         }
     }
 
     /// Makes the sentence of check 13 or 14 true, and leaves the other's as it is.
-    fn spoil(&mut self, fault: u8, fixes: &[Fix], random: &mut Random) {
+    fn spoil(&mut self, fault: u8, trail: &Trail, random: &mut Random) {
         match fault {
-            13 => self.window = Window::bad(fixes, random),
-            14 => self.area.spoil(random),
+            13 => self.window = Window::bad(&trail.fixes, random),
+            14 => self.area.spoil(trail.kind, random),
             other => panic!("no fault of a crossing has the number {other}"),
         }
     }
 }
 
-/// Holds an answer to what the plain version found: a refusal and a no carry nothing, and a yes has the same time, in
-/// any form with a denominator from 1 to 32,000.
-pub fn agrees(answer: Crossing, expected: Result<Option<Time>, u8>, name: &str) {
+/// Holds an answer about a record of this kind to what the plain version found: a refusal and a no carry nothing, and a
+/// yes has the same time, in any form with a denominator that the kind lets it have.
+pub fn agrees(kind: Kind, answer: Crossing, expected: Result<Option<Time>, u8>, name: &str) {
     let facts = (answer.refusal, answer.crosses);
     match expected {
         Err(number) => assert_eq!(facts, (number.into(), 0), "{name}"),
@@ -279,7 +287,7 @@ pub fn agrees(answer: Crossing, expected: Result<Option<Time>, u8>, name: &str) 
     }
     match expected {
         Ok(Some(time)) => {
-            let told = told(&answer, name);
+            let told = told(kind, &answer, name);
             assert!(told.order(&time).is_eq(), "{name}: {told:?}, not {time:?}");
         }
         _ => assert_eq!((answer.numerator, answer.denominator), (0, 0), "{name}"),
@@ -287,9 +295,9 @@ pub fn agrees(answer: Crossing, expected: Result<Option<Time>, u8>, name: &str) 
 }
 
 /// The time of a yes, in seconds after the first fix.
-pub fn told(answer: &Crossing, name: &str) -> Time {
+pub fn told(kind: Kind, answer: &Crossing, name: &str) -> Time {
     assert_eq!((answer.refusal, answer.crosses), (0, 1), "{name}");
-    let free = 1..=32_000;
+    let free = 1..=kind.denominator;
     assert!(free.contains(&answer.denominator), "{name}: {answer:?}");
     Time {
         p: answer.numerator.into(),
@@ -302,7 +310,8 @@ pub fn crosses(record: &[u8], question: &Question, name: &str) -> Crossing {
     let before = record.to_vec();
     let name = format!("{name}, {question:?}");
     let answer = interface::crosses(record, question);
-    agrees(answer, crossing::crosses(record, question), &name);
+    let expected = crossing::crosses(record, question);
+    agrees(kind_of(record, CENTIMETRES), answer, expected, &name);
     assert!(record == before, "{name}: other bytes");
     answer
 }

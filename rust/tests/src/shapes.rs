@@ -1,8 +1,10 @@
-//! Trails of the kinds that a thinner meets: wild, smooth, at rest, zig-zag, and full of equal distances; and the two
-//! of document 02 that are as long as a record can be.
+//! Trails of the sorts that a thinner meets: wild, smooth, at rest, zig-zag, full of equal distances, from wall to wall
+//! over hours, and with distances that differ in one word only; and the two of document 02 that are as long as a record
+//! can be.
 
-use crate::cases::{fixes, times, Random};
-use crate::plain::Fix;
+use crate::cases::{fixes, times, times_within, Random};
+use crate::plain::kinds::{Kind, KINDS};
+use crate::plain::{Fix, Trail};
 
 #[derive(Clone, Copy, Debug)]
 pub enum Shape {
@@ -11,40 +13,70 @@ pub enum Shape {
     AtRest,
     ZigZag,
     Ties,
+    Far,
+    Words,
 }
 
-pub const SHAPES: [Shape; 5] = [
+pub const SHAPES: [Shape; 7] = [
     Shape::Wild,
     Shape::Smooth,
     Shape::AtRest,
     Shape::ZigZag,
     Shape::Ties,
+    Shape::Far,
+    Shape::Words,
 ];
+
+/// Every kind with every shape.
+pub fn every_kind_and_shape() -> impl Iterator<Item = (Kind, Shape)> {
+    let shapes = |kind| SHAPES.map(|shape| (kind, shape));
+    KINDS.into_iter().flat_map(shapes)
+}
 
 /// A place in the making, which a step may have taken out of the hall.
 type Place = (i64, i64);
 
-/// An accepted trail of n fixes.
-pub fn trail(shape: Shape, n: usize, random: &mut Random) -> Vec<Fix> {
-    let places = match shape {
-        Shape::Wild => return fixes(random, n),
-        Shape::Smooth => smooth(n, random),
-        Shape::AtRest => at_rest(n, random),
-        Shape::ZigZag => zig_zag(n, random),
-        Shape::Ties => ties(n, random),
+/// An accepted trail of n fixes, never thinned.
+pub fn trail(kind: Kind, shape: Shape, n: usize, random: &mut Random) -> Trail {
+    let fixes = match shape {
+        Shape::Wild => fixes(kind, random, n),
+        Shape::Smooth => usual(kind, smooth(n, random), random),
+        Shape::AtRest => usual(kind, at_rest(n, random), random),
+        Shape::ZigZag => usual(kind, zig_zag(n, random), random),
+        Shape::Ties => usual(kind, ties(n, random), random),
+        Shape::Far => far(kind, n, random),
+        Shape::Words => words(kind, n, random),
     };
-    let times = if random.one_in(4) {
-        times(random, n)
-    } else {
-        steady(n, random)
-    };
-    let inside = |c: i64| c.clamp(-16_000, 16_000) as i16;
+    Trail::never_thinned(kind, fixes)
+}
+
+/// The fixes at these times and places, which are brought back into the hall.
+fn placed(kind: Kind, times: Vec<u32>, places: Vec<Place>) -> Vec<Fix> {
+    let limit = i64::from(kind.limit);
+    let inside = |c: i64| c.clamp(-limit, limit) as i32;
     let fix = |(t, (x, y)): (u32, Place)| Fix {
         t,
         x: inside(x),
         y: inside(y),
     };
     times.into_iter().zip(places).map(fix).collect()
+}
+
+/// Places that were thought of in centimetres: in a finer unit as many of it, or as far, and then also a little off.
+fn usual(kind: Kind, mut places: Vec<Place>, random: &mut Random) -> Vec<Fix> {
+    let times_as_far = random.pick(&[1, kind.times.into()]);
+    let off = random.pick(&[0, times_as_far - 1]);
+    for (x, y) in &mut places {
+        *x = *x * times_as_far + random.between(-off, off);
+        *y = *y * times_as_far + random.between(-off, off);
+    }
+    let n = places.len();
+    let times = if random.one_in(4) {
+        times(random, n)
+    } else {
+        steady(n, random)
+    };
+    placed(kind, times, places)
 }
 
 /// A fix every so many seconds; every second is the usual.
@@ -91,9 +123,9 @@ fn at_rest(n: usize, random: &mut Random) -> Vec<Place> {
 fn zig_zag(n: usize, random: &mut Random) -> Vec<Place> {
     let drift = random.between(-3, 3);
     let widest = random.between(1, 3_000);
-    let kind = random.between(0, 2);
+    let sort = random.between(0, 2);
     let mut place = |k: i64| {
-        let wide = match kind {
+        let wide = match sort {
             0 => widest,
             1 => n as i64 - 1 - k,
             _ => random.between(0, widest),
@@ -118,10 +150,75 @@ fn ties(n: usize, random: &mut Random) -> Vec<Place> {
     (0..n).map(|k| pattern[at(k) % period]).collect()
 }
 
+/// Near the walls, over three hours and more: in millimetres a sum of squares then needs more than 64 bits.
+fn far(kind: Kind, n: usize, random: &mut Random) -> Vec<Fix> {
+    let limit = i64::from(kind.limit);
+    let mut coordinate = || {
+        let wall = random.pick(&[-limit, limit]);
+        let near = wall - wall.signum() * random.between(0, limit / 16);
+        let middle = random.between(-limit, limit);
+        random.pick(&[wall, near, near, near, middle])
+    };
+    let places = (0..n).map(|_| (coordinate(), coordinate())).collect();
+    let span = random.between(10_000, 65_535);
+    placed(kind, times_within(span, true, random, n), places)
+}
+
+// ---- sums that differ in one word only
+
+/// A cart that after 2ᵃ seconds is back where it was. So an inner fix that is (dx, dy) away has a sum of 2²ᵃ·(dx² +
+/// dy²).
+fn words(kind: Kind, n: usize, random: &mut Random) -> Vec<Fix> {
+    let a = random.pick(&[14, 15]);
+    let limit = i64::from(kind.limit);
+    // whether the limits let a sum have more than 64 bits
+    let wide = (2 * limit).pow(2) >> (64 - 2 * a) > 0;
+    let bits = if wide { random.pick(&[32, 64, 64]) } else { 32 };
+    let any = random.between(-limit, limit);
+    let from = (
+        random.pick(&[-limit, limit, any]),
+        random.pick(&[-limit, limit, 0]),
+    );
+    let away = aways(2 * limit, bits - 2 * a, random);
+    // towards the wall that is further off
+    let side = |from: i64| if from > 0 { -1 } else { 1 };
+    let place = |k: usize| match k {
+        0 => from,
+        _ if k == n - 1 => from,
+        _ => {
+            let (dx, dy) = random.pick(&away);
+            (from.0 + side(from.0) * dx, from.1 + side(from.1) * dy)
+        }
+    };
+    let places = (0..n).map(place).collect();
+    placed(kind, times_within(1 << a, true, random, n), places)
+}
+
+/// Two places that are so far away that their squared distances differ by a multiple of 2ᵐ; and some next to them.
+fn aways(reach: i64, m: i64, random: &mut Random) -> Vec<Place> {
+    let b = (m / 2 + random.between(-1, 1)).clamp(1, m - 1);
+    let mut multiple = |of: i64| of * random.between(1, (reach / of).max(1));
+    // (g + h)²/4 − (h − g)²/4 = g·h
+    let (g, h) = (multiple(1 << b), multiple(1 << (m - b)));
+    let (one, other) = ((g + h) / 2, (h - g).abs() / 2);
+    let any = random.between(0, reach);
+    let dy = random.pick(&[0, 0, 1, any]);
+    let near = random.between(-1, 1);
+    vec![
+        (one, dy),
+        (other, dy),
+        (one, dy + near),
+        (other + near, dy),
+        (dy, one),
+    ]
+}
+
+// ---- document 02's
+
 /// Document 02's dearest trail: each split leaves one fix on one side and all others on the other.
 pub fn dearest(n: usize) -> Vec<Fix> {
     let fix = |i: usize| {
-        let far = (n - 1 - i) as i16;
+        let far = (n - 1 - i) as i32;
         Fix {
             t: i as u32,
             x: 0,
@@ -135,8 +232,18 @@ pub fn dearest(n: usize) -> Vec<Fix> {
 pub fn curve(n: usize) -> Vec<Fix> {
     let fix = |i: usize| Fix {
         t: i as u32,
-        x: i as i16,
-        y: (i * i / 2_000) as i16,
+        x: i as i32,
+        y: (i * i / 2_000) as i32,
     };
     (0..n).map(fix).collect()
+}
+
+/// The same places in millimetres.
+pub fn ten_times(fixes: &[Fix]) -> Vec<Fix> {
+    let finer = |fix: &Fix| Fix {
+        t: fix.t,
+        x: 10 * fix.x,
+        y: 10 * fix.y,
+    };
+    fixes.iter().map(finer).collect()
 }

@@ -3,9 +3,11 @@
 
 use trails_tests::agings::{stays_near, Buffer};
 use trails_tests::cases::{Cases, Random, Settings, Tally};
+use trails_tests::compare::draw;
+use trails_tests::plain::kinds::{Kind, KINDS, MILLIMETRES};
 use trails_tests::plain::lists::Call;
 use trails_tests::plain::thinning::thin;
-use trails_tests::plain::{Fix, MOST_FIXES, NEVER};
+use trails_tests::plain::{Trail, MOST_FIXES, NEVER};
 use trails_tests::shapes::{trail, Shape, SHAPES};
 
 /// A run of calls, and how many left all fixes, some inner ones, and the ends only, so that none of these can be
@@ -26,34 +28,36 @@ impl Run {
         }
     }
 
-    fn buffer(&mut self, shape: Shape, fixes: &[Fix], mark: u16) -> Buffer {
-        let seed = self.settings.seed;
-        let name = format!("seed {seed}: {shape:?}, {} fixes, mark {mark}", fixes.len());
-        Buffer::of(name, fixes, mark, &mut self.random)
+    fn buffer(&mut self, shape: Shape, trail: &Trail) -> Buffer {
+        let Trail { kind, mark, fixes } = trail;
+        let (seed, n) = (self.settings.seed, fixes.len());
+        let name = format!("seed {seed}: {kind}, {shape:?}, {n} fixes, mark {mark}");
+        Buffer::of(name, trail, &mut self.random)
     }
 
     /// A call that isn't refused, on a trail with any mark, and what must hold of it besides being as the plain
     /// version has it.
-    fn case(&mut self, shape: Shape, n: usize, call: Call) {
-        let fixes = trail(shape, n, &mut self.random);
-        let foreign = self.random.between(0, 32_000) as u16;
-        let low = self.random.between(0, 300) as u16;
-        let mark = self.random.pick(&[NEVER, NEVER, 0, 32_000, low, foreign]);
-        let mut buffer = self.buffer(shape, &fixes, mark);
+    fn case(&mut self, kind: Kind, shape: Shape, n: usize, call: Call) {
+        let mark = draw::mark(kind, &mut self.random);
+        let original = Trail {
+            mark,
+            ..trail(kind, shape, n, &mut self.random)
+        };
+        let mut buffer = self.buffer(shape, &original);
         let answer = buffer.age(call);
         assert_eq!(answer.refusal, 0, "{}, {call:?}", buffer.name);
         let most = (n as u64 - 1) * (n as u64).saturating_sub(2) / 2;
         assert!(u64::from(answer.value) <= most, "{}", buffer.name);
         let aged = buffer.trail();
         let name = format!("{}, {call:?}", buffer.name);
-        let expected = match (mark, call.applies()) {
+        let expected = match (mark, call.applies(kind)) {
             (mark, None) => mark,
             (NEVER, Some(e)) => e,
             (mark, Some(e)) => mark.max(e),
         };
         assert_eq!(aged.mark, expected, "{name}");
-        let e = call.applies().unwrap_or(0);
-        stays_near(&fixes, &aged.fixes, e, &name, &mut self.random);
+        let e = call.applies(kind).unwrap_or(0);
+        stays_near(&original.fixes, &aged.fixes, e, &name, &mut self.random);
         let kept = aged.fixes.len();
         let which = if kept == n {
             0
@@ -63,20 +67,25 @@ impl Run {
         self.left[which] += 1;
     }
 
-    fn expect_all_kinds(&self) {
+    fn expect_all_sorts(&self) {
         let [all, some, ends] = self.left;
         println!("aging: {all} left all fixes, {some} some inner ones, {ends} the ends only");
         assert!(all > 0 && some > 0 && ends > 0);
     }
 
-    fn accepted_call(&mut self) -> Call {
+    fn accepted_call(&mut self, kind: Kind) -> Call {
         loop {
-            let call = Call::any(&mut self.random);
-            if !matches!(call, Call::Tolerance(32_001..)) {
+            let call = Call::any(kind, &mut self.random);
+            if !is_high(call, kind) {
                 return call;
             }
         }
     }
+}
+
+/// Whether check 10 turns it away.
+fn is_high(call: Call, kind: Kind) -> bool {
+    matches!(call, Call::Tolerance(e) if e > kind.top)
 }
 
 #[test]
@@ -86,24 +95,27 @@ fn trails_of_every_shape_are_aged_as_the_plain_version_does() {
         let small = run.random.between(1, 40);
         let middle = run.random.between(1, 400);
         let n = if k.is_multiple_of(20) { middle } else { small };
-        let call = run.accepted_call();
-        run.case(SHAPES[k % SHAPES.len()], n as usize, call);
+        let kind = run.random.pick(&KINDS);
+        let call = run.accepted_call(kind);
+        run.case(kind, SHAPES[k % SHAPES.len()], n as usize, call);
     }
-    run.expect_all_kinds();
+    run.expect_all_sorts();
 }
 
 #[test]
 fn the_longest_trails_are_aged_as_the_plain_version_does() {
-    let mut run = Run::new();
-    for shape in SHAPES {
-        for n in [1, 2, 3, 1_000, MOST_FIXES - 1, MOST_FIXES] {
-            for e in [0, 1, 12, 400, 32_000] {
-                run.case(shape, n, Call::Tolerance(e));
+    for kind in KINDS {
+        let mut run = Run::new();
+        for shape in SHAPES {
+            for n in [1, 2, 3, 1_000, MOST_FIXES - 1, MOST_FIXES] {
+                for e in [0, 1, 12, 10 * kind.times, 400, kind.top] {
+                    run.case(kind, shape, n, Call::Tolerance(e));
+                }
+                run.case(kind, shape, n, Call::Days(30));
             }
-            run.case(shape, n, Call::Days(30));
         }
+        run.expect_all_sorts();
     }
-    run.expect_all_kinds();
 }
 
 #[test]
@@ -112,23 +124,24 @@ fn each_refusal_is_given_in_order_and_changes_no_byte() {
     let mut random = Random::new(settings.seed);
     let (mut by_tolerance, mut by_days) = (Tally::default(), Tally::default());
     for case in Cases::all(settings) {
-        let call = Call::any(&mut random);
+        let kind = case.kind();
+        let call = Call::any(kind, &mut random);
         let mut buffer = Buffer::new(case.name, case.bytes);
         let before = buffer.bytes.clone();
         let answer = buffer.age(call);
         let name = format!("{}, {call:?}", buffer.name);
         // check 10 comes after all others, and only agings by tolerance make it
-        let high = matches!(call, Call::Tolerance(32_001..));
         if let Some(known) = case.known {
-            let known = if known == 0 && high { 10 } else { known };
+            let high = known == 0 && is_high(call, kind);
+            let known = if high { 10 } else { known };
             assert_eq!(answer.refusal, known.into(), "{name}");
         }
         if answer.refusal != 0 {
             assert_eq!((answer.value, &buffer.bytes), (0, &before), "{name}");
         }
         match call {
-            Call::Tolerance(_) => by_tolerance.count(answer.refusal),
-            Call::Days(_) => by_days.count(answer.refusal),
+            Call::Tolerance(_) => by_tolerance.count(kind, answer.refusal),
+            Call::Days(_) => by_days.count(kind, answer.refusal),
         }
     }
     by_tolerance.expect("aging", &[1, 2, 3, 4, 5, 6, 7, 8, 9, 10]);
@@ -138,45 +151,57 @@ fn each_refusal_is_given_in_order_and_changes_no_byte() {
 #[test]
 fn the_limits_of_the_tolerance() {
     let mut run = Run::new();
-    let fixes = trail(Shape::Wild, 50, &mut run.random);
-    for (e, refusal) in [(0, 0), (32_000, 0), (32_001, 10), (65_535, 10)] {
-        let mut buffer = run.buffer(Shape::Wild, &fixes, NEVER);
-        let answer = buffer.age(Call::Tolerance(e));
-        assert_eq!(answer.refusal, refusal, "tolerance {e}");
-        let mark = if refusal == 0 { e } else { NEVER };
-        assert_eq!(buffer.trail().mark, mark, "tolerance {e}");
+    let tolerances = [
+        (0, [0, 0]),
+        (32_000, [0, 0]),
+        (32_001, [10, 0]),
+        (60_000, [10, 0]),
+        (60_001, [10, 10]),
+        (65_535, [10, 10]),
+    ];
+    for (k, kind) in KINDS.into_iter().enumerate() {
+        let trail = trail(kind, Shape::Wild, 50, &mut run.random);
+        for (e, refusals) in tolerances {
+            let mut buffer = run.buffer(Shape::Wild, &trail);
+            let answer = buffer.age(Call::Tolerance(e));
+            assert_eq!(answer.refusal, refusals[k], "{kind}, tolerance {e}");
+            let mark = if refusals[k] == 0 { e } else { NEVER };
+            assert_eq!(buffer.trail().mark, mark, "{kind}, tolerance {e}");
+        }
     }
 }
 
-/// The first and the last day of each row of the table, and what applies then.
-const DAYS: [(u16, Option<u16>); 10] = [
+/// The first and the last day of each row of the table, and what applies then to each kind.
+const DAYS: [(u16, Option<[u16; 2]>); 10] = [
     (0, None),
     (1, None),
-    (2, Some(10)),
-    (6, Some(10)),
-    (7, Some(25)),
-    (29, Some(25)),
-    (30, Some(100)),
-    (89, Some(100)),
-    (90, Some(400)),
-    (65_535, Some(400)),
+    (2, Some([10, 100])),
+    (6, Some([10, 100])),
+    (7, Some([25, 250])),
+    (29, Some([25, 250])),
+    (30, Some([100, 1_000])),
+    (89, Some([100, 1_000])),
+    (90, Some([400, 4_000])),
+    (65_535, Some([400, 4_000])),
 ];
 
 #[test]
 fn days_are_the_tolerance_of_the_table_or_nothing() {
     let mut run = Run::new();
-    for shape in SHAPES {
-        let fixes = trail(shape, 300, &mut run.random);
-        for (days, applies) in DAYS {
-            let mut buffer = run.buffer(shape, &fixes, NEVER);
-            let mut other = Buffer::new(buffer.name.clone(), buffer.bytes.clone());
-            let answer = buffer.age(Call::Days(days));
-            let name = format!("{shape:?}, {days} days");
-            match applies {
-                None => assert_eq!((answer.refusal, answer.value), (0, 0), "{name}"),
-                Some(e) => assert_eq!(answer, other.age(Call::Tolerance(e)), "{name}"),
+    for (k, kind) in KINDS.into_iter().enumerate() {
+        for shape in SHAPES {
+            let trail = trail(kind, shape, 300, &mut run.random);
+            for (days, applies) in DAYS {
+                let mut buffer = run.buffer(shape, &trail);
+                let mut other = Buffer::new(buffer.name.clone(), buffer.bytes.clone());
+                let answer = buffer.age(Call::Days(days));
+                let name = format!("{kind}, {shape:?}, {days} days");
+                match applies.map(|of| of[k]) {
+                    None => assert_eq!((answer.refusal, answer.value), (0, 0), "{name}"),
+                    Some(e) => assert_eq!(answer, other.age(Call::Tolerance(e)), "{name}"),
+                }
+                assert_eq!(buffer.bytes, other.bytes, "{name}");
             }
-            assert_eq!(buffer.bytes, other.bytes, "{name}");
         }
     }
 }
@@ -184,7 +209,6 @@ fn days_are_the_tolerance_of_the_table_or_nothing() {
 #[test]
 fn marks_that_others_wrote_are_believed() {
     let mut run = Run::new();
-    let fixes = trail(Shape::Smooth, 200, &mut run.random);
     for (mark, e, after) in [
         (40, 12, 40),
         (12, 40, 40),
@@ -195,11 +219,28 @@ fn marks_that_others_wrote_are_believed() {
         (NEVER, 0, 0),
         (NEVER, 32_000, 32_000),
     ] {
-        let mut buffer = run.buffer(Shape::Smooth, &fixes, mark);
+        for kind in KINDS {
+            run.believes(kind, mark, e, after);
+        }
+    }
+    run.believes(MILLIMETRES, 60_000, 0, 60_000);
+    run.believes(MILLIMETRES, 32_001, 60_000, 60_000);
+    run.believes(MILLIMETRES, NEVER, 60_000, 60_000);
+}
+
+impl Run {
+    /// A smooth trail with this mark has another after an aging.
+    fn believes(&mut self, kind: Kind, mark: u16, e: u16, after: u16) {
+        let trail = Trail {
+            mark,
+            ..trail(kind, Shape::Smooth, 200, &mut self.random)
+        };
+        let mut buffer = self.buffer(Shape::Smooth, &trail);
         buffer.age(Call::Tolerance(e));
         let aged = buffer.trail();
         // the fixes are thinned at what was asked, and not at the mark
-        assert_eq!(aged.fixes, thin(&fixes, e).kept, "mark {mark}, {e}");
-        assert_eq!(aged.mark, after, "mark {mark}, {e}");
+        let kept = thin(&trail.fixes, e).kept;
+        assert_eq!(aged.fixes, kept, "{kind}, mark {mark}, {e}");
+        assert_eq!(aged.mark, after, "{kind}, mark {mark}, {e}");
     }
 }

@@ -14,20 +14,75 @@ fn each_case_is_answered_as_the_plain_version_does() {
         if let Some(known) = case.known {
             assert_eq!(head.refusal, known.into(), "{}", case.name);
         }
-        tally.count(head.refusal);
+        tally.count(case.kind(), head.refusal);
     }
     tally.expect("check", &[1, 2, 3, 4, 5, 6, 7, 8, 9]);
 }
 
+/// Document 01's, and the same fix in millimetres.
 #[test]
 fn the_example_of_the_papers_is_accepted() {
-    let example = [
+    let mut example = vec![
         0x12, 0, 0, 0, 1, 0, 0xFF, 0xFF, 1, 0, 0xE8, 3, 0, 0, 0xFF, 0xFF, 2, 0,
     ];
-    let head = Head {
+    let head = |kind| Head {
         refusal: 0,
+        kind,
         count: 1,
         mark: 65_535,
     };
-    assert_eq!(check(&example), head);
+    assert_eq!(check(&example), head(1));
+    example.truncate(14);
+    example.extend([0xF6, 0xFF, 0xFF, 0xFF, 20, 0, 0, 0]);
+    (example[0], example[4]) = (0x16, 2);
+    assert_eq!(check(&example), head(2));
+}
+
+/// By hand: each limit of kind 2 met, and passed by one.
+#[test]
+fn the_limits_of_millimetres() {
+    let answers = |mark: u16, x: i32, y: i32| {
+        let mut record = vec![22, 0, 0, 0, 2, 0];
+        record.extend(mark.to_le_bytes());
+        record.extend([1, 0, 0, 0, 0, 0]);
+        record.extend([x, y].map(i32::to_le_bytes).concat());
+        check(&record).refusal
+    };
+    assert_eq!(answers(60_000, 160_000, -160_000), 0);
+    assert_eq!(answers(60_001, 160_000, -160_000), 6);
+    assert_eq!(answers(65_534, 0, 0), 6);
+    assert_eq!(answers(65_535, -160_000, 160_000), 0);
+    for far in [160_001, -160_001, 16_000 << 16, i32::MAX, i32::MIN] {
+        assert_eq!([answers(0, far, 0), answers(0, 0, far)], [7, 7], "{far}");
+    }
+}
+
+/// A kind is one of 16 bits, and a record that says another kind has another length.
+#[test]
+fn kinds_and_lengths_of_one_another() {
+    let mut record = vec![0; 10 + 12 * 3];
+    record[4] = 2;
+    record[8] = 3;
+    for (k, time) in [(0, 1), (1, 2), (2, 3)] {
+        record[10 + 12 * k] = time;
+    }
+    for (length, kind, refusal) in [
+        (10 + 12 * 3, 2, 0),
+        (10 + 8 * 3, 2, 4),
+        (10 + 12 * 3 - 1, 2, 4),
+        (10 + 12 * 3 + 1, 2, 4),
+        (10 + 12 * 3, 1, 4),
+        (10 + 12 * 3, 3, 2),
+        (10 + 12 * 3, 0, 2),
+        (10 + 12 * 3, 258, 2),
+        (10 + 12 * 3, 513, 2),
+    ] {
+        record[0] = length;
+        record[4..6].copy_from_slice(&u16::to_le_bytes(kind));
+        assert_eq!(check(&record).refusal, refusal, "{length}, kind {kind}");
+    }
+    // the same bytes as kind 1: the second fix begins among the first one's old bytes, with time 0
+    record[0] = 10 + 8 * 3;
+    record[4..6].copy_from_slice(&[1, 0]);
+    assert_eq!(check(&record).refusal, 8);
 }

@@ -3,16 +3,17 @@
 #![forbid(unsafe_code)]
 
 use trails_tests::agings::{some_calls, Buffer};
-use trails_tests::cases::{Random, Settings, Tally};
-use trails_tests::interface::{self, crosses_after, run, Crossing};
+use trails_tests::cases::{kind_of, Random, Settings, Tally};
+use trails_tests::interface::{self, crosses_after, run};
 use trails_tests::plain::crossing::{crosses, telling_times, Area, Question, Window};
+use trails_tests::plain::kinds::{Kind, CENTIMETRES, KINDS, MILLIMETRES};
 use trails_tests::plain::lists::{self, Book, Call};
 use trails_tests::plain::place::{Place, Time};
-use trails_tests::plain::{record_length, Fix, MOST_FIXES};
+use trails_tests::plain::{Fix, Trail, MOST_FIXES};
 use trails_tests::questions::{agrees, refused_in_order, told, Asked as _};
-use trails_tests::shapes::{trail, SHAPES};
+use trails_tests::shapes::{every_kind_and_shape, ten_times, trail, SHAPES};
 
-/// A list and a question, and how many answers were of each kind, so that none can be missing unseen.
+/// A list and a question, and how many answers were of each sort, so that none can be missing unseen.
 struct Run {
     random: Random,
     refused: usize,
@@ -38,18 +39,20 @@ impl Run {
     }
 
     /// Makes the calls and asks, and holds the claim to what came of it.
-    fn case(&mut self, name: &str, fixes: &[Fix], calls: &[Call], question: &Question) {
+    fn case(&mut self, name: &str, original: &Trail, calls: &[Call], question: &Question) {
         let name = format!("{name}, {calls:?}, {question:?}");
+        let Trail { kind, fixes, .. } = original;
         let numbers = self.numbers(calls);
-        let mut buffer = Buffer::never_thinned(name, fixes, &mut self.random);
+        let mut buffer = Buffer::of(name, original, &mut self.random);
         let before = buffer.bytes.clone();
         let answer = crosses_after(&mut buffer.bytes, &numbers, question);
         let mut aged = Buffer::new(buffer.name.clone(), before.clone());
         let run = run(&mut aged.bytes, &numbers);
-        assert_eq!(run, tells_the_calls(calls), "{}", buffer.name);
-        let book = leaves_what_the_book_says(&aged, &before, fixes, calls);
+        assert_eq!(run, tells_the_calls(*kind, calls), "{}", buffer.name);
+        let book = leaves_what_the_book_says(&aged, &before, original, calls);
         // refused or not, the question is of the trail before as it is of the trail after
-        agrees(answer, crosses(&aged.bytes, question), &buffer.name);
+        let expected = crosses(&aged.bytes, question);
+        agrees(*kind, answer, expected, &buffer.name);
         let e = book.e.unwrap_or(0);
         if answer.refusal != 0 {
             assert!(buffer.bytes == before, "{}: refused", buffer.name);
@@ -58,22 +61,23 @@ impl Run {
         }
         assert!(buffer.bytes == aged.bytes, "{}: other bytes", buffer.name);
         if answer.crosses == 1 {
-            self.told[told_is_near(&answer, fixes, question, e, &buffer.name)] += 1;
+            let told = told(*kind, &answer, &buffer.name);
+            self.told[told_is_near(told, fixes, question, e, &buffer.name)] += 1;
         } else {
             self.denied[denied_is_outside(fixes, question, e, &buffer.name)] += 1;
         }
     }
 
-    fn question(&mut self, fixes: &[Fix]) -> Question {
-        let mut question = Question::good(fixes, &mut self.random);
+    fn question(&mut self, trail: &Trail) -> Question {
+        let mut question = Question::good(trail, &mut self.random);
         if self.random.one_in(10) {
             let fault = self.random.pick(&[13, 14]);
-            question.spoil(fault, fixes, &mut self.random);
+            question.spoil(fault, trail, &mut self.random);
         }
         question
     }
 
-    fn expect_all_kinds(&self) {
+    fn expect_all_sorts(&self) {
         let ([inside, near], [outside, beside]) = (self.told, self.denied);
         println!("claim: {inside} told with the original inside, {near} near");
         println!("claim: {outside} denied with the original outside, {beside} by a side");
@@ -84,8 +88,8 @@ impl Run {
 }
 
 /// Of an accepted record: none refused it, and so many calls were turned away.
-fn tells_the_calls(calls: &[Call]) -> interface::Run {
-    let high = |call: &&Call| matches!(call, Call::Tolerance(32_001..));
+fn tells_the_calls(kind: Kind, calls: &[Call]) -> interface::Run {
+    let high = |call: &&Call| matches!(call, Call::Tolerance(e) if *e > kind.top);
     interface::Run {
         refusal: 0,
         turned_away: calls.iter().filter(high).count(),
@@ -96,10 +100,10 @@ fn tells_the_calls(calls: &[Call]) -> interface::Run {
 fn leaves_what_the_book_says(
     buffer: &Buffer,
     before: &[u8],
-    fixes: &[Fix],
+    original: &Trail,
     calls: &[Call],
 ) -> Book {
-    let mut book = Book::of(fixes);
+    let mut book = Book::of(original);
     let mut plain = before.to_vec();
     for &call in calls {
         book.feed(call);
@@ -109,20 +113,13 @@ fn leaves_what_the_book_says(
     let name = &buffer.name;
     assert_eq!(buffer.trail(), book.expected(), "{name}");
     assert!(buffer.bytes == plain, "{name}: other bytes");
-    let after = record_length(fixes.len());
+    let after = original.bytes().len();
     assert!(buffer.bytes[after..] == before[after..], "{name}: the tail");
     book
 }
 
 /// A yes: at its time the original is within E of the box. Answers 0 if it is in the box, and 1 if it isn't.
-fn told_is_near(
-    answer: &Crossing,
-    original: &[Fix],
-    question: &Question,
-    e: u16,
-    name: &str,
-) -> usize {
-    let told = told(answer, name);
+fn told_is_near(told: Time, original: &[Fix], question: &Question, e: u16, name: &str) -> usize {
     let time = Time {
         p: told.p + told.q * i128::from(original[0].t),
         q: told.q,
@@ -157,35 +154,56 @@ fn any_list_and_question() {
         let n = run
             .random
             .between(1, if k.is_multiple_of(20) { 400 } else { 60 });
-        let fixes = trail(shape, n as usize, &mut run.random);
-        let calls = some_calls(&mut run.random);
-        let question = run.question(&fixes);
-        let name = format!("seed {}: {shape:?}, {n} fixes", settings.seed);
-        run.case(&name, &fixes, &calls, &question);
+        let kind = run.random.pick(&KINDS);
+        let original = trail(kind, shape, n as usize, &mut run.random);
+        let calls = some_calls(kind, &mut run.random);
+        let question = run.question(&original);
+        let name = format!("seed {}: {kind}, {shape:?}, {n} fixes", settings.seed);
+        run.case(&name, &original, &calls, &question);
     }
-    run.expect_all_kinds();
+    run.expect_all_sorts();
 }
 
 /// Tolerances that thin but leave something, where yes and no are the hardest to have right.
 #[test]
 fn lists_of_small_tolerances() {
-    let settings = Settings::get();
-    let mut run = Run::new();
-    for k in 0..settings.cases {
-        let shape = SHAPES[k % SHAPES.len()];
-        let fixes = trail(shape, 40, &mut run.random);
-        let mut small = || Call::Tolerance(run.random.between(0, 40) as u16);
-        let calls = [small(), Call::Days(1), small(), Call::Tolerance(32_001)];
-        let question = run.question(&fixes);
-        let name = format!("seed {}: {shape:?}", settings.seed);
-        run.case(&name, &fixes, &calls, &question);
+    for kind in KINDS {
+        small_tolerances(kind);
     }
-    run.expect_all_kinds();
 }
 
-// A yes and a no that are as far off as 50 lets them be, so that the claim is no weaker than it says.
+fn small_tolerances(kind: Kind) {
+    let settings = Settings::get();
+    let mut run = Run::new();
+    for k in 0..settings.cases / 2 {
+        let shape = SHAPES[k % SHAPES.len()];
+        let original = trail(kind, shape, 40, &mut run.random);
+        let most = i64::from(40 * kind.times);
+        let mut small = || Call::Tolerance(run.random.between(0, most) as u16);
+        let high = Call::Tolerance(kind.top + 1);
+        let calls = [small(), Call::Days(1), small(), high];
+        let question = run.question(&original);
+        let name = format!("seed {}: {kind}, {shape:?}", settings.seed);
+        run.case(&name, &original, &calls, &question);
+    }
+    run.expect_all_sorts();
+}
 
-const BOUND: [Call; 3] = [Call::Tolerance(12), Call::Tolerance(50), Call::Days(7)];
+// A yes and a no that are as far off as 50 centimetres let them be, so that the claim is no weaker than it says.
+
+/// Agings whose greatest tolerance is 50 centimetres.
+fn bound(kind: Kind) -> [Call; 3] {
+    let [one, other] = [12, 50].map(|e| Call::Tolerance(e * kind.times));
+    [one, other, Call::Days(7)]
+}
+
+/// The trail of these fixes, and in millimetres of the same.
+fn in_both_units(fixes: &[Fix]) -> [Trail; 2] {
+    [
+        Trail::never_thinned(CENTIMETRES, fixes.to_vec()),
+        Trail::never_thinned(MILLIMETRES, ten_times(fixes)),
+    ]
+}
 
 fn at_second(second: u32, area: Area) -> Question {
     let (start, end) = (second, second);
@@ -198,36 +216,45 @@ fn at_second(second: u32, area: Area) -> Question {
 fn a_yes_may_be_off_by_all_of_e() {
     let fixes = [(0, 0, 0), (10, 30, 40), (20, 0, 0)].map(Fix::from);
     let question = at_second(10, Area::new((0, 0), (0, 0)));
-    let mut run = Run::new();
-    run.case("c", &fixes, &BOUND, &question);
-    assert_eq!(run.told, [0, 1]);
-    let place = Place::at(&fixes, Time::whole(10));
-    assert!(question.area.within(&place, 50) && !question.area.within(&place, 49));
+    for original in in_both_units(&fixes) {
+        let mut run = Run::new();
+        run.case("c", &original, &bound(original.kind), &question);
+        assert_eq!(run.told, [0, 1]);
+        let place = Place::at(&original.fixes, Time::whole(10));
+        let e = 50 * original.kind.times;
+        assert!(question.area.within(&place, e) && !question.area.within(&place, e - 1));
+    }
 }
 
-/// From second 3 to 6 the original is 50 ahead of the line between its ends, which is all that is left. At second 5
-/// the record has x at 5/3, left of the box, and the original at 155/3, which is 149/3 from the left edge.
+/// From second 3 to 6 the original is 50 ahead of the line between its ends, which is all that is left. At second 5 the
+/// record has x at 5/3, left of the box, and the original at 155/3, which is 149/3 from the left edge; in millimetres
+/// ten times as far, and the edge a millimetre nearer to 50/3, of which 5/3 times ten is 16 and two thirds.
 #[test]
 fn a_no_may_be_off_by_more_than_the_whole_number_below_e() {
     let fixes = [(0, 0, 0), (3, 51, 0), (6, 52, 0), (9, 3, 0)].map(Fix::from);
-    let question = at_second(5, Area::new((2, 200), (-100, 100)));
-    let mut run = Run::new();
-    run.case("ahead", &fixes, &BOUND, &question);
-    assert_eq!(run.denied, [0, 1]);
-    let place = Place::at(&fixes, Time::whole(5));
-    assert!(question.area.beside(&place, 50) && !question.area.beside(&place, 49));
+    for (original, left) in in_both_units(&fixes).into_iter().zip([2, 17]) {
+        let far = i32::from(original.kind.times) * 200;
+        let question = at_second(5, Area::new((left, far), (-far, far)));
+        let mut run = Run::new();
+        run.case("ahead", &original, &bound(original.kind), &question);
+        assert_eq!(run.denied, [0, 1]);
+        let place = Place::at(&original.fixes, Time::whole(5));
+        let e = 50 * original.kind.times;
+        assert!(question.area.beside(&place, e) && !question.area.beside(&place, e - 1));
+    }
 }
 
 #[test]
 fn the_longest_trails_and_a_long_list() {
     let mut run = Run::new();
-    for shape in SHAPES {
-        let fixes = trail(shape, MOST_FIXES, &mut run.random);
+    for (kind, shape) in every_kind_and_shape() {
+        let original = trail(kind, shape, MOST_FIXES, &mut run.random);
         let mut long: Vec<Call> = (0..20).map(|k| Call::Tolerance(k % 7)).collect();
         long.push(Call::Days(65_535));
+        let name = format!("{kind}, {shape:?}, the longest");
         for calls in [&[][..], &[Call::Days(0)], &[Call::Tolerance(3)], &long] {
-            let question = run.question(&fixes);
-            run.case(&format!("{shape:?}, the longest"), &fixes, calls, &question);
+            let question = run.question(&original);
+            run.case(&name, &original, calls, &question);
         }
     }
 }
@@ -243,11 +270,8 @@ fn what_is_refused_is_left_as_it_was() {
         let (mut bytes, mut plain) = (record.to_vec(), record.to_vec());
         let answer = crosses_after(&mut bytes, &numbers, question);
         let name = format!("{name}, {question:?}");
-        agrees(
-            answer,
-            lists::crosses_after(&mut plain, &calls, question),
-            &name,
-        );
+        let expected = lists::crosses_after(&mut plain, &calls, question);
+        agrees(kind_of(record, CENTIMETRES), answer, expected, &name);
         assert!(bytes == plain, "{name}: other bytes");
         assert!(answer.refusal == 0 || bytes == record, "{name}: refused");
         answer.refusal

@@ -1,5 +1,5 @@
-//! The comparison itself: it meets everything and finds no difference, and of one that is put in, between the sides or
-//! from a twin, it shows the smallest case.
+//! The comparison itself: it meets everything and finds no difference, and of one that is put in, between the sides,
+//! from a twin or from the same in millimetres, it shows the smallest case.
 #![forbid(unsafe_code)]
 
 use trails_tests::cases::Settings;
@@ -8,8 +8,9 @@ use trails_tests::compare::{plain, proved, run, Case, Crossed, Outcome, Reply};
 use trails_tests::compare::{Operation, Sides};
 use trails_tests::interface::Crossing;
 use trails_tests::plain::crossing::{Area, Question, Window};
+use trails_tests::plain::kinds::{Kind, CENTIMETRES, MILLIMETRES};
 use trails_tests::plain::thinning::thin;
-use trails_tests::plain::{self, read, record_length, Fix, NEVER};
+use trails_tests::plain::{read, Fix, Trail, NEVER};
 use trails_tests::questions::Moment;
 
 const SETTINGS: Settings = Settings {
@@ -17,9 +18,14 @@ const SETTINGS: Settings = Settings {
     cases: 20_000,
 };
 
-fn record(mark: u16, fixes: &[(u32, i16, i16)]) -> Vec<u8> {
-    let fixes: Vec<Fix> = fixes.iter().copied().map(Fix::from).collect();
-    plain::record(mark, &fixes)
+fn record_of(kind: Kind, mark: u16, fixes: &[(u32, i32, i32)]) -> Vec<u8> {
+    let fixes = fixes.iter().copied().map(Fix::from).collect();
+    Trail { kind, mark, fixes }.bytes()
+}
+
+/// Of the kind that cases are brought to where they can be.
+fn record(mark: u16, fixes: &[(u32, i32, i32)]) -> Vec<u8> {
+    record_of(CENTIMETRES, mark, fixes)
 }
 
 /// How many fixes an accepted record has, and 0 of others.
@@ -90,12 +96,11 @@ fn a_tolerance_that_is_wrong_from_100_on_is_shown_at_100() {
 #[test]
 fn a_distance_at_the_tolerance_is_shown_in_small_numbers() {
     let case = shown(|case, outcome| {
-        let (Operation::Age(e @ 1..=32_000), Ok(trail)) = (&case.operation, read(&case.buffer))
-        else {
+        let (Operation::Age(e @ 1..), Ok(trail)) = (&case.operation, read(&case.buffer)) else {
             return;
         };
         let kept = |e: u16| thin(&trail.fixes, e).kept;
-        if kept(e - 1) != kept(*e) {
+        if *e <= trail.kind.top && kept(e - 1) != kept(*e) {
             outcome.after.buffer[0] ^= 0xFF;
         }
     });
@@ -105,15 +110,17 @@ fn a_distance_at_the_tolerance_is_shown_in_small_numbers() {
     assert_eq!(times, [0, 1, 2]);
     // one coordinate of one fix is 1, or -1; which of them doesn't matter
     let off = fixes.iter().map(|fix| fix.x.abs() + fix.y.abs());
-    assert_eq!(off.sum::<i16>(), 1, "{fixes:?}");
+    assert_eq!(off.sum::<i32>(), 1, "{fixes:?}");
 }
 
 #[test]
 fn a_changed_byte_after_the_record_is_shown_with_that_byte() {
     let case = shown(|case, outcome| {
-        let count = fixes(&case.buffer);
-        let after = outcome.after.buffer.get_mut(record_length(count));
-        if let (Operation::Check, 1.., Some(byte)) = (&case.operation, count, after) {
+        let (Operation::Check, Ok(trail)) = (&case.operation, read(&case.buffer)) else {
+            return;
+        };
+        let after = outcome.after.buffer.get_mut(trail.bytes().len());
+        if let Some(byte) = after {
             *byte ^= 0x80;
         }
     });
@@ -154,6 +161,34 @@ fn a_list_whose_count_is_wrong_is_shown_with_the_calls_that_are_counted() {
     assert_eq!(case.buffer, record(0, &[(0, 0, 0)]));
 }
 
+/// What only records in millimetres can show is shown by one: at the least of the lengths that centimetres can't have.
+#[test]
+fn a_limit_of_millimetres_is_shown_in_millimetres() {
+    let case = shown(|case, outcome| {
+        let millimetres = read(&case.buffer).is_ok_and(|trail| trail.kind == MILLIMETRES);
+        if let (true, Operation::Age(50_000..), Reply::Answer(answer)) =
+            (millimetres, &case.operation, &mut outcome.reply)
+        {
+            answer.value += u32::from(answer.refusal == 0);
+        }
+    });
+    assert_eq!(case.operation, Operation::Age(50_000));
+    assert_eq!(case.buffer, record_of(MILLIMETRES, 0, &[(0, 0, 0)]));
+}
+
+#[test]
+fn a_place_that_needs_four_bytes_is_shown_with_them() {
+    let case = shown(|case, outcome| {
+        let far = |fix: &Fix| fix.x > 100_000;
+        let is_far = read(&case.buffer).is_ok_and(|trail| trail.fixes.iter().any(far));
+        if let (true, Operation::Check) = (is_far, &case.operation) {
+            outcome.after.buffer[0] ^= 0xFF;
+        }
+    });
+    assert_eq!(case.operation, Operation::Check);
+    assert_eq!(case.buffer, record_of(MILLIMETRES, 0, &[(0, 100_001, 0)]));
+}
+
 #[test]
 fn a_column_that_is_not_filled_to_its_end_is_shown_alone() {
     let case = shown(|case, outcome| {
@@ -179,7 +214,7 @@ fn a_column_that_is_not_filled_to_its_end_is_shown_alone() {
 #[test]
 fn a_place_that_the_writer_gets_wrong_is_shown_alone() {
     let case = shown(|case, outcome| {
-        if let (Operation::Write(Columns { x, .. }), Reply::Answer(answer)) =
+        if let (Operation::Write(_, Columns { x, .. }), Reply::Answer(answer)) =
             (&case.operation, &mut outcome.reply)
         {
             let far = x.iter().any(|&x| (-16_000..-100).contains(&x));
@@ -191,7 +226,7 @@ fn a_place_that_the_writer_gets_wrong_is_shown_alone() {
         x: vec![-101],
         y: vec![0],
     };
-    assert_eq!(case.operation, Operation::Write(columns));
+    assert_eq!(case.operation, Operation::Write(CENTIMETRES, columns));
     assert_eq!(case.buffer, [0; 18]);
 }
 
@@ -222,7 +257,7 @@ fn a_crossing_that_is_missed_is_shown_by_one_leg() {
     assert_eq!(times, [0, 1]);
     // a way of 2 along one axis, as 0 to 2 or as -1 to 1, and a box that is one place on it
     let off = fixes.iter().map(|fix| fix.x.abs() + fix.y.abs());
-    assert_eq!(off.sum::<i16>(), 2, "{fixes:?}");
+    assert_eq!(off.sum::<i32>(), 2, "{fixes:?}");
     let (Operation::Crosses(question) | Operation::CrossesAfter(_, question)) = case.operation
     else {
         panic!("{case:?}");
@@ -243,28 +278,30 @@ fn forms_of_one_fraction_are_equal_and_denominators_have_limits() {
         window: Window { start: 0, end: 10 },
         area: Area::new((33, 40), (-5, 5)),
     };
-    let case = Case {
-        buffer: record(NEVER, &[(0, 0, 0), (10, 100, 0)]),
-        operation: Operation::Crosses(question),
+    let answer = |numerator, denominator| Crossing {
+        refusal: 0,
+        crosses: 1,
+        numerator,
+        denominator,
     };
-    let answer = |numerator, denominator| {
-        Crossed::from(Crossing {
-            refusal: 0,
-            crosses: 1,
-            numerator,
-            denominator,
-        })
-    };
-    let told = proved(&case).reply;
     for (p, q, equal) in [
-        (33, 10, true),
-        (330, 100, true),
-        (105_600, 32_000, true),
-        (105_930, 32_100, false),
-        (0, 0, false),
-        (34, 10, false),
+        (33, 10, [true, true]),
+        (330, 100, [true, true]),
+        (105_600, 32_000, [true, true]),
+        (105_930, 32_100, [false, true]),
+        (1_056_000, 320_000, [false, true]),
+        (1_056_033, 320_010, [false, false]),
+        (0, 0, [false, false]),
+        (34, 10, [false, false]),
     ] {
-        assert_eq!(told == Reply::Crossing(answer(p, q)), equal, "{p}/{q}");
+        let are_equal = [CENTIMETRES, MILLIMETRES].map(|kind| {
+            let case = Case {
+                buffer: record_of(kind, NEVER, &[(0, 0, 0), (10, 100, 0)]),
+                operation: Operation::Crosses(question),
+            };
+            proved(&case).reply == Reply::Crossing(Crossed::of(kind, answer(p, q)))
+        });
+        assert_eq!(are_equal, equal, "{p}/{q}");
     }
 }
 
@@ -328,4 +365,32 @@ fn seconds_that_are_cut_to_16_bits_are_shown_also_if_both_sides_do_it() {
         assert_eq!(case.operation, Operation::Place(moment));
         assert_eq!(case.buffer, record(0, &[(0, 0, 0)]));
     }
+}
+
+// ---- in millimetres
+
+/// A side that takes coordinates in millimetres for others from 65,536 on.
+fn cut_wide(side: fn(&Case) -> Outcome) -> impl Fn(&Case) -> Outcome {
+    move |case| {
+        let mut outcome = side(case);
+        if let Reply::Steps(steps) = &mut outcome.reply {
+            let fine = steps.iter_mut().filter(|step| step.kind == 2);
+            fine.for_each(|step| step.x %= 65_536);
+        }
+        outcome
+    }
+}
+
+/// If both sides do it, only what the same trail answers in centimetres shows it.
+#[test]
+fn what_both_sides_do_to_millimetres_is_shown_by_the_same_in_centimetres() {
+    let (one, other) = (cut_wide(proved), cut_wide(plain));
+    let case = shown_by(Sides {
+        proved: &one,
+        plain: &other,
+    });
+    assert_eq!(case.operation, Operation::Read(vec![0]));
+    // ten times as far is the first beyond 65,535, on either side
+    let fixes = read(&case.buffer).expect("it is accepted").fixes;
+    assert_eq!((fixes.len(), fixes[0].x.abs()), (1, 6_554));
 }

@@ -4,8 +4,9 @@
 use trails_tests::cases::{buffer, Random, Settings, Tally};
 use trails_tests::interface::{numbers, Crossing};
 use trails_tests::plain::crossing::{Area, Question, Window};
+use trails_tests::plain::kinds::{Kind, CENTIMETRES, KINDS, MILLIMETRES};
 use trails_tests::plain::place::Time;
-use trails_tests::plain::{Fix, MOST_FIXES};
+use trails_tests::plain::{Fix, Trail, MOST_FIXES};
 use trails_tests::questions::{asked_of_every_shape, crosses, refused_in_order, told, Asked as _};
 use trails_tests::shapes::{trail, SHAPES};
 
@@ -13,22 +14,28 @@ use trails_tests::shapes::{trail, SHAPES};
 
 /// A trail, and its questions: a window, the low and the high edge of x and of y, and the time of a yes.
 struct Row {
-    fixes: &'static [(u32, i16, i16)],
+    fixes: &'static [(u32, i32, i32)],
     asked: &'static [Asked],
 }
 
-type Asked = ((u32, u32), (i32, i32), (i32, i32), Option<(u32, u32)>);
+type Asked = ((u32, u32), (i32, i32), (i32, i32), Option<(u64, u32)>);
+
+/// The record of fixes by hand, never thinned.
+fn record(kind: Kind, fixes: impl IntoIterator<Item = Fix>) -> Vec<u8> {
+    buffer(&Trail::never_thinned(kind, fixes.into_iter().collect()))
+}
 
 impl Row {
-    fn holds(&self) {
-        let fixes: Vec<Fix> = self.fixes.iter().copied().map(Fix::from).collect();
+    fn holds(&self, kind: Kind) {
+        let fixes = self.fixes.iter().copied().map(Fix::from);
+        let bytes = record(kind, fixes);
         for &((start, end), x, y, time) in self.asked {
             let question = Question {
                 window: Window { start, end },
                 area: Area::new(x, y),
             };
-            let name = format!("{fixes:?}, {question:?}");
-            let answer = crosses(&buffer(&fixes), &question, &name);
+            let name = format!("{kind}, {:?}, {question:?}", self.fixes);
+            let answer = crosses(&bytes, &question, &name);
             assert_eq!(
                 (answer.refusal, answer.crosses == 1),
                 (0, time.is_some()),
@@ -36,7 +43,7 @@ impl Row {
             );
             if let Some((p, q)) = time {
                 let (p, q) = (p.into(), q.into());
-                let told = told(&answer, &name);
+                let told = told(kind, &answer, &name);
                 assert!(told.order(&Time { p, q }).is_eq(), "{name}: {told:?}");
             }
         }
@@ -185,17 +192,118 @@ const WALLS: Row = Row {
     ],
 };
 
+/// What is asked in centimetres can be asked in millimetres too.
 #[test]
 fn trails_worked_by_hand() {
-    [L, SLOPES, STANDING, LONE, WALLS]
-        .iter()
-        .for_each(Row::holds);
+    for row in [L, SLOPES, STANDING, LONE, WALLS] {
+        KINDS.into_iter().for_each(|kind| row.holds(kind));
+    }
+}
+
+/// The same walls in millimetres: denominators up to 320,000, and numerators above 2³².
+const FAR_WALLS: Row = Row {
+    fixes: &[
+        (4_294_901_760, -160_000, 160_000),
+        (4_294_967_295, 160_000, -160_000),
+    ],
+    asked: &[
+        // 65,535 · 319,999 / 320,000
+        (
+            (4_294_901_760, u32::MAX),
+            (159_999, 160_000),
+            (-160_000, 160_000),
+            Some((20_971_134_465, 320_000)),
+        ),
+        (
+            (4_294_901_760, u32::MAX),
+            (-160_000, 160_000),
+            (-160_000, -159_999),
+            Some((20_971_134_465, 320_000)),
+        ),
+        // 65,535 · 65,537 is 2³² − 1, the most that 32 bits hold, and a millimetre further it is more
+        (
+            (4_294_901_760, u32::MAX),
+            (-94_463, -94_463),
+            (-160_000, 160_000),
+            Some((4_294_967_295, 320_000)),
+        ),
+        (
+            (4_294_901_760, u32::MAX),
+            (-94_462, -94_462),
+            (-160_000, 160_000),
+            Some((4_295_032_830, 320_000)),
+        ),
+        (
+            (4_294_901_760, u32::MAX),
+            (160_000, 160_000),
+            (-160_000, -160_000),
+            Some((65_535, 1)),
+        ),
+        (
+            (4_294_901_760, u32::MAX - 1),
+            (160_000, 160_000),
+            (-160_000, -160_000),
+            None,
+        ),
+        ((4_294_901_760, u32::MAX), (1, 160_000), (0, 160_000), None),
+    ],
+};
+
+/// Down a slope and up again, with a way of 21,000 in y and another of 7,000 in x.
+const FAR_SLOPES: Row = Row {
+    fixes: &[(100, 0, 0), (107, 7_000, -21_000), (114, 14_000, 0)],
+    asked: &[
+        // a millimetre is 1/3000 of a second in y and 1/1000 in x
+        ((100, 114), (3_000, 9_000), (-9_000, 5), Some((3, 1))),
+        ((100, 114), (3_001, 9_000), (-9_000, 5), None),
+        ((100, 114), (3_001, 14_000), (-9_000, 5), Some((11, 1))),
+        (
+            (100, 114),
+            (3_001, 3_001),
+            (-9_003, 5),
+            Some((3_001, 1_000)),
+        ),
+        ((100, 114), (3_001, 3_001), (-9_002, 5), None),
+        (
+            (100, 114),
+            (0, 14_000),
+            (-10_001, -10_001),
+            Some((10_001, 3_000)),
+        ),
+        (
+            (104, 114),
+            (0, 14_000),
+            (-10_001, -10_001),
+            Some((31_999, 3_000)),
+        ),
+    ],
+};
+
+#[test]
+fn trails_in_millimetres() {
+    FAR_WALLS.holds(MILLIMETRES);
+    FAR_SLOPES.holds(MILLIMETRES);
+}
+
+/// A numerator that needs more than 32 bits, as it is: 65,535 · 319,999.
+#[test]
+fn a_numerator_above_32_bits_is_told_whole() {
+    let fixes = FAR_WALLS.fixes.iter().copied().map(Fix::from);
+    let question = Question {
+        window: Window {
+            start: 4_294_901_760,
+            end: u32::MAX,
+        },
+        area: Area::new((159_999, 160_000), (-160_000, 160_000)),
+    };
+    let answer = crosses(&record(MILLIMETRES, fixes), &question, "walls");
+    assert_eq!(numbers(answer), [0, 1, 20_971_134_465, 320_000]);
 }
 
 // ---- moved in time
 
 /// A window in seconds after the first fix, a box, and the answer by hand: refusal, yes, numerator and denominator.
-type Moved = ((i32, i32), (i32, i32), (i32, i32), [u32; 4]);
+type Moved = ((i32, i32), (i32, i32), (i32, i32), [u64; 4]);
 
 const MOVED: [Moved; 7] = [
     // y comes to -10 when 10 of its 21 centimetres are gone, in 7 seconds
@@ -217,6 +325,10 @@ const FIRSTS: [u32; 4] = [0, 65_529, 65_536, 4_294_967_281];
 /// The slopes from each of these seconds on are asked the same, where 32 bits hold the window.
 #[test]
 fn a_trail_and_its_window_moved_alike_have_the_same_answer() {
+    KINDS.into_iter().for_each(is_answered_the_same);
+}
+
+fn is_answered_the_same(kind: Kind) {
     for (window, x, y, expected) in MOVED {
         let asked = FIRSTS.into_iter().filter_map(|first| {
             let second = |after| first.checked_add_signed(after);
@@ -227,12 +339,12 @@ fn a_trail_and_its_window_moved_alike_have_the_same_answer() {
                 },
                 area: Area::new(x, y),
             };
-            let fix = |&(t, x, y): &(u32, i16, i16)| Fix::from((t - 100 + first, x, y));
-            let fixes: Vec<Fix> = SLOPES.fixes.iter().map(fix).collect();
+            let fix = |&(t, x, y): &(u32, i32, i32)| Fix::from((t - 100 + first, x, y));
+            let bytes = record(kind, SLOPES.fixes.iter().map(fix));
             let name = format!("from {first}");
-            Some(numbers(crosses(&buffer(&fixes), &question, &name)))
+            Some(numbers(crosses(&bytes, &question, &name)))
         });
-        let answers: Vec<[u32; 4]> = asked.collect();
+        let answers: Vec<[u64; 4]> = asked.collect();
         let many = if expected[0] == 0 { 4 } else { 3 };
         assert_eq!(answers, vec![expected; many], "{window:?}, {x:?}, {y:?}");
     }
@@ -243,22 +355,22 @@ fn a_trail_and_its_window_moved_alike_have_the_same_answer() {
 /// How many answers were no, yes at the window's start, yes later at a whole second, and yes at a fraction, so that
 /// none of these can be missing unseen.
 #[derive(Default)]
-struct Kinds([usize; 4]);
+struct Sorts([usize; 4]);
 
-impl Kinds {
-    fn count(&mut self, answer: &Crossing, fixes: &[Fix], window: Window, name: &str) {
-        let kind = if answer.crosses == 0 {
+impl Sorts {
+    fn count(&mut self, answer: &Crossing, trail: &Trail, window: Window, name: &str) {
+        let which = if answer.crosses == 0 {
             0
         } else {
-            let time = told(answer, name);
-            let start = Time::whole(window.start).since(fixes[0].t);
+            let time = told(trail.kind, answer, name);
+            let start = Time::whole(window.start).since(trail.fixes[0].t);
             match (time.order(&start).is_eq(), time.p % time.q) {
                 (true, _) => 1,
                 (false, 0) => 2,
                 (false, _) => 3,
             }
         };
-        self.0[kind] += 1;
+        self.0[which] += 1;
     }
 
     fn expect_all(&self) {
@@ -270,30 +382,32 @@ impl Kinds {
 
 #[test]
 fn trails_of_every_shape_are_answered_as_the_plain_version_does() {
-    let mut kinds = Kinds::default();
-    asked_of_every_shape(|fixes, bytes, question: Question, name| {
+    let mut sorts = Sorts::default();
+    asked_of_every_shape(|trail, bytes, question: Question, name| {
         let answer = crosses(bytes, &question, name);
         assert_eq!(answer.refusal, 0, "{name}, {question:?}");
-        kinds.count(&answer, fixes, question.window, name);
+        sorts.count(&answer, trail, question.window, name);
     });
-    kinds.expect_all();
+    sorts.expect_all();
 }
 
 #[test]
 fn the_longest_trails_are_answered_as_the_plain_version_does() {
     let mut random = Random::new(Settings::get().seed);
-    let mut kinds = Kinds::default();
-    for shape in SHAPES {
-        let fixes = trail(shape, MOST_FIXES, &mut random);
-        let bytes = buffer(&fixes);
-        let name = format!("{shape:?}, the longest");
-        for _ in 0..100 {
-            let question = Question::good(&fixes, &mut random);
-            let answer = crosses(&bytes, &question, &name);
-            kinds.count(&answer, &fixes, question.window, &name);
+    for kind in KINDS {
+        let mut sorts = Sorts::default();
+        for shape in SHAPES {
+            let trail = trail(kind, shape, MOST_FIXES, &mut random);
+            let bytes = buffer(&trail);
+            let name = format!("{kind}, {shape:?}, the longest");
+            for _ in 0..100 {
+                let question = Question::good(&trail, &mut random);
+                let answer = crosses(&bytes, &question, &name);
+                sorts.count(&answer, &trail, question.window, &name);
+            }
         }
+        sorts.expect_all();
     }
-    kinds.expect_all();
 }
 
 /// All boxes of a small grid, and all windows, on small trails: every way to touch is among them.
@@ -303,10 +417,9 @@ fn every_small_box_and_window() {
     let mut random = Random::new(settings.seed);
     let ranges = |from: i32, to: i32| (from..=to).flat_map(move |a| (a..=to).map(move |b| (a, b)));
     for _ in 0..settings.cases / 200 {
-        let mut coordinate = || random.between(-2, 2) as i16;
+        let mut coordinate = || random.between(-2, 2) as i32;
         let mut small = |t| (t, coordinate(), coordinate());
-        let fixes = [small(0), small(1), small(3)].map(Fix::from);
-        let bytes = buffer(&fixes);
+        let bytes = record(CENTIMETRES, [small(0), small(1), small(3)].map(Fix::from));
         for x in ranges(-2, 2) {
             for y in ranges(-2, 2) {
                 for (start, end) in ranges(0, 3) {

@@ -4,9 +4,10 @@
 use trails_tests::agings::Buffer;
 use trails_tests::cases::Random;
 use trails_tests::interface::Answer;
+use trails_tests::plain::kinds::{CENTIMETRES, MILLIMETRES};
 use trails_tests::plain::lists::Call;
-use trails_tests::plain::{Fix, MOST_FIXES};
-use trails_tests::shapes::dearest;
+use trails_tests::plain::{Fix, Trail, MOST_FIXES};
+use trails_tests::shapes::{dearest, ten_times};
 
 /// The trail in the other direction. Its splits nest in the first of the two pieces, and the dearest trail's in the
 /// second, and a compiler may treat the two calls differently.
@@ -19,15 +20,19 @@ fn backwards(fixes: &[Fix]) -> Vec<Fix> {
     fixes.iter().rev().map(turned).collect()
 }
 
+/// In both directions and, ten times as far, in millimetres.
 fn costs_the_most(n: usize) {
     let value = ((n - 1) * n.saturating_sub(2) / 2) as u32;
-    let trail = dearest(n);
-    for fixes in [backwards(&trail), trail] {
-        let mut random = Random::new(n as u64);
-        let name = format!("the dearest trail of {n} fixes");
-        let mut buffer = Buffer::never_thinned(name, &fixes, &mut random);
-        let answer = buffer.age(Call::Tolerance(1));
-        assert_eq!(answer, Answer { refusal: 0, value }, "{n} fixes");
+    let there = dearest(n);
+    for fixes in [backwards(&there), there] {
+        for (kind, fixes) in [(MILLIMETRES, ten_times(&fixes)), (CENTIMETRES, fixes)] {
+            let mut random = Random::new(n as u64);
+            let name = format!("the dearest trail of {n} fixes in {kind}");
+            let trail = Trail::never_thinned(kind, fixes);
+            let mut buffer = Buffer::of(name, &trail, &mut random);
+            let answer = buffer.age(Call::Tolerance(kind.times));
+            assert_eq!(answer, Answer { refusal: 0, value }, "{}", buffer.name);
+        }
     }
 }
 

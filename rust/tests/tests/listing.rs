@@ -3,7 +3,8 @@
 
 use trails_tests::cases::{Cases, Draft, Random, Settings};
 use trails_tests::interface::{self, LONGEST_TEXT};
-use trails_tests::plain::{self, Fix, LONGEST, MOST_FIXES};
+use trails_tests::plain::kinds::{KINDS, MILLIMETRES};
+use trails_tests::plain::{self, Fix, Trail, LONGEST, MOST_FIXES};
 use trails_tests::programs::{printed, proved};
 
 fn lists_as(input: &[u8], piece: usize, text: &str, what: &str) {
@@ -20,7 +21,7 @@ fn lists_like_plain(input: &[u8], piece: usize, what: &str) {
 }
 
 /// Inputs with their text, both by hand.
-const STORED: [(&str, &str); 17] = [
+const STORED: [(&str, &str); 23] = [
     (
         "12 00 00 00 01 00 FF FF 01 00 E8 03 00 00 FF FF 02 00",
         "trail 1 never\nfix 1000 -1 2\nend\n",
@@ -39,7 +40,8 @@ const STORED: [(&str, &str); 17] = [
     ),
     ("", "refused 1\n"),
     ("12 00 00 00 01 00 FF FF 01", "refused 1\n"),
-    ("12 00 00 00 02 00 FF FF 01 00", "refused 2\n"),
+    ("12 00 00 00 03 00 FF FF 01 00", "refused 2\n"),
+    ("12 00 00 00 01 02 FF FF 01 00", "refused 2\n"),
     ("0A 00 00 00 01 00 FF FF 00 00", "refused 3\n"),
     ("12 80 00 00 01 00 FF FF 01 10", "refused 3\n"),
     ("13 00 00 00 01 00 FF FF 01 00", "refused 4\n"),
@@ -68,6 +70,24 @@ const STORED: [(&str, &str); 17] = [
         "1A 00 00 00 01 00 FF FF 02 00 00 00 00 00 00 00 00 00 FF FF 00 00 00 00 00 00",
         "trail 2 never\nfix 0 0 0\nfix 65535 0 0\nend\n",
     ),
+    // in millimetres: both ends of the hall, and each limit passed by one
+    (
+        "22 00 00 00 02 00 60 EA 02 00 00 00 FF FF 00 8F FD FF 00 71 02 00 FF FF FF FF 0A 00 00 00 F6 FF FF FF 01",
+        "trail 2 60000\nfix 4294901760 -160000 160000\nfix 4294967295 10 -10\nend\n",
+    ),
+    ("12 00 00 00 02 00 FF FF 01 00", "refused 4\n"),
+    (
+        "16 00 00 00 02 00 FF FF 01 00 E8 03 00 00 FF FF FF FF 02 00 00",
+        "refused 5\n",
+    ),
+    (
+        "16 00 00 00 02 00 61 EA 01 00 E8 03 00 00 FF FF FF FF 02 00 00 00",
+        "refused 6\n",
+    ),
+    (
+        "16 00 00 00 02 00 FF FF 01 00 E8 03 00 00 FF FF FF FF 01 71 02 00",
+        "refused 7\n",
+    ),
 ];
 
 fn bytes(hex: &str) -> Vec<u8> {
@@ -90,15 +110,19 @@ fn stored_inputs_give_their_text() {
 fn long_inputs_are_read_to_the_last_byte_of_the_longest_record_and_no_further() {
     let settings = Settings::get();
     let mut random = Random::new(settings.seed);
-    for after in [0, 1, 8, LONGEST, 1_000_000] {
-        let mut draft = Draft::accepted(&mut random, MOST_FIXES);
+    for (after, kind) in [0, 1, 8, LONGEST, 1_000_000]
+        .into_iter()
+        .flat_map(|after| KINDS.map(|kind| (after, kind)))
+    {
+        let mut draft = Draft::accepted(kind, &mut random, MOST_FIXES);
         draft.tail = random.bytes(after);
-        let what = format!("seed {}: the longest and {after} more", settings.seed);
+        let seed = settings.seed;
+        let what = format!("seed {seed}: the longest in {kind} and {after} more");
         for piece in [999, LONGEST - 1, 1 << 20] {
             lists_like_plain(&draft.bytes(), piece, &what);
         }
         draft.tail.clear();
-        draft.lent = Some(LONGEST - 1);
+        draft.lent = Some(kind.record_length(MOST_FIXES) - 1);
         lists_like_plain(&draft.bytes(), 4_096, &what);
     }
 }
@@ -107,14 +131,20 @@ fn long_inputs_are_read_to_the_last_byte_of_the_longest_record_and_no_further() 
 fn the_longest_text_is_printed_whole() {
     let place = |t| Fix {
         t,
-        x: -16_000,
-        y: -16_000,
+        x: -160_000,
+        y: -160_000,
     };
     let first = u32::MAX - (MOST_FIXES as u32 - 1);
-    let fixes = (first..=u32::MAX).map(place).collect();
-    let input = Draft::new(fixes, 32_000, Vec::new()).bytes();
-    // two lines of 17 and 4 bytes, and 29 bytes a fix, each number as long as it can be
-    assert_eq!(plain::listing(&input).len(), 17 + 29 * MOST_FIXES + 4);
+    let trail = Trail {
+        kind: MILLIMETRES,
+        mark: 60_000,
+        fixes: (first..=u32::MAX).map(place).collect(),
+    };
+    let input = trail.bytes();
+    assert_eq!(input.len(), 49_162);
+    // two lines of 17 and 4 bytes, and 31 bytes a fix, each number as long as it can be
+    assert_eq!(plain::listing(&input).len(), 17 + 31 * MOST_FIXES + 4);
+    assert_eq!(plain::listing(&input).len(), LONGEST_TEXT);
     lists_like_plain(&input, LONGEST, "the longest text");
 }
 

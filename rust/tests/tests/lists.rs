@@ -6,15 +6,16 @@ use trails_tests::agings::{some_calls, stays_near, Buffer};
 use trails_tests::cases::{Cases, Random, Settings, Tally};
 use trails_tests::expected;
 use trails_tests::interface::run;
+use trails_tests::plain::kinds::KINDS;
 use trails_tests::plain::lists::{Book, Call};
-use trails_tests::plain::{Fix, MOST_FIXES};
-use trails_tests::shapes::{trail, SHAPES};
+use trails_tests::plain::{Trail, MOST_FIXES};
+use trails_tests::shapes::{every_kind_and_shape, trail, SHAPES};
 
 /// Makes the calls one after the other on one buffer. The claim is about whole lists, and each beginning of a list
 /// is one.
-fn ages(name: String, fixes: &[Fix], calls: &[Call], random: &mut Random) {
-    let mut buffer = Buffer::never_thinned(name, fixes, random);
-    let mut book = Book::of(fixes);
+fn ages(name: String, original: &Trail, calls: &[Call], random: &mut Random) {
+    let mut buffer = Buffer::of(name, original, random);
+    let mut book = Book::of(original);
     assert_eq!(buffer.trail(), book.expected(), "{}", buffer.name);
     for &call in calls {
         buffer.age(call);
@@ -23,7 +24,7 @@ fn ages(name: String, fixes: &[Fix], calls: &[Call], random: &mut Random) {
     }
     let aged = buffer.trail().fixes;
     let e = book.e.unwrap_or(0);
-    stays_near(fixes, &aged, e, &buffer.name, random);
+    stays_near(&original.fixes, &aged, e, &buffer.name, random);
 }
 
 #[test]
@@ -32,11 +33,13 @@ fn any_list_leaves_the_original_thinned_at_the_greatest() {
     let mut random = Random::new(settings.seed);
     for k in 0..settings.cases {
         let shape = SHAPES[k % SHAPES.len()];
+        let kind = random.pick(&KINDS);
         let n = random.between(1, if k.is_multiple_of(20) { 400 } else { 60 });
-        let fixes = trail(shape, n as usize, &mut random);
-        let calls = some_calls(&mut random);
-        let name = format!("seed {}: {shape:?}, {n} fixes, {calls:?}", settings.seed);
-        ages(name, &fixes, &calls, &mut random);
+        let original = trail(kind, shape, n as usize, &mut random);
+        let calls = some_calls(kind, &mut random);
+        let seed = settings.seed;
+        let name = format!("seed {seed}: {kind}, {shape:?}, {n} fixes, {calls:?}");
+        ages(name, &original, &calls, &mut random);
     }
 }
 
@@ -50,12 +53,13 @@ fn so_do_lists_on_the_longest_trails() {
         Call::Days(30),
         Call::Days(1),
         Call::Tolerance(60),
+        Call::Tolerance(60_001),
         Call::Days(90),
     ];
-    for shape in SHAPES {
-        let fixes = trail(shape, MOST_FIXES, &mut random);
-        let name = format!("{shape:?}, the longest, {calls:?}");
-        ages(name, &fixes, &calls, &mut random);
+    for (kind, shape) in every_kind_and_shape() {
+        let original = trail(kind, shape, MOST_FIXES, &mut random);
+        let name = format!("{kind}, {shape:?}, the longest, {calls:?}");
+        ages(name, &original, &calls, &mut random);
     }
 }
 
@@ -85,11 +89,11 @@ fn every_order_of_the_same_calls_is_a_list() {
         Call::Days(1),
         Call::Tolerance(25),
     ];
-    for shape in SHAPES {
-        let fixes = trail(shape, 100, &mut random);
+    for (kind, shape) in every_kind_and_shape() {
+        let original = trail(kind, shape, 100, &mut random);
         for order in orders(&calls) {
-            let name = format!("{shape:?}, {order:?}");
-            ages(name, &fixes, &order, &mut random);
+            let name = format!("{kind}, {shape:?}, {order:?}");
+            ages(name, &original, &order, &mut random);
         }
     }
 }
@@ -102,7 +106,7 @@ fn a_list_as_one_call_tells_what_became_of_it() {
     let mut tally = Tally::default();
     let mut most = 0;
     for case in Cases::all(settings) {
-        let calls = some_calls(&mut random);
+        let calls = some_calls(case.kind(), &mut random);
         let numbers: Vec<u32> = calls.iter().map(|call| call.number(&mut random)).collect();
         let name = format!("{}, {calls:?}", case.name);
         let (mut bytes, mut plain) = (case.bytes.clone(), case.bytes.clone());
@@ -115,7 +119,7 @@ fn a_list_as_one_call_tells_what_became_of_it() {
         if told.refusal != 0 {
             assert_eq!((told.turned_away, &bytes), (0, &case.bytes), "{name}");
         }
-        tally.count(told.refusal);
+        tally.count(case.kind(), told.refusal);
         most = most.max(told.turned_away);
     }
     tally.expect("list", &[1, 2, 3, 4, 5, 6, 7, 8, 9]);

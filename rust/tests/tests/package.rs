@@ -1,8 +1,9 @@
 //! Every function of the package `trails` beside the plain version of document 01, on the cases that the interface is tried on.
 #![forbid(unsafe_code)]
 
-use trails::{Aging, Area, Fix, Moment, Refusal, Window};
+use trails::{Aging, Area, Fix, Fixes, InUnit, MillimetreFix, Moment, Refusal, Unit, Window};
 use trails_tests::cases::{Case, Cases, Random, Settings};
+use trails_tests::plain::kinds::{Kind, CENTIMETRES, KINDS, MILLIMETRES};
 use trails_tests::plain::{self, crossing, moment, thinning};
 
 fn cases() -> Vec<Case> {
@@ -12,9 +13,27 @@ fn cases() -> Vec<Case> {
     })
 }
 
-fn ours(fix: &plain::Fix) -> Fix {
-    let plain::Fix { t, x, y } = *fix;
-    Fix { t, x, y }
+fn unit(kind: Kind) -> Unit {
+    match kind {
+        CENTIMETRES => Unit::Centimetres,
+        _ => Unit::Millimetres,
+    }
+}
+
+/// What the documents say of each kind, and what the package has for its unit.
+#[test]
+fn units_have_their_kinds_numbers() {
+    for kind in KINDS {
+        let limits = unit(kind).limits();
+        assert_eq!(limits.kind, kind.code);
+        assert_eq!(limits.fix_bytes, kind.fix_bytes());
+        assert_eq!(limits.place, kind.limit);
+        assert_eq!(limits.tolerance, kind.top);
+        assert_eq!(limits.per_centimetre, kind.times);
+        assert_eq!(Unit::of_kind(kind.code), Some(unit(kind)));
+        assert_eq!(unit(kind).to_string(), kind.unit);
+    }
+    assert_eq!(trails::LONGEST, plain::LONGEST);
 }
 
 fn number<T>(answer: Result<T, Refusal>) -> Result<T, u8> {
@@ -26,12 +45,14 @@ fn records_are_read_and_listed() {
     for case in cases() {
         let expected = plain::read(&case.bytes).map(|trail| {
             let mark = Some(trail.mark).filter(|mark| *mark != plain::NEVER);
-            (mark, trail.fixes.iter().map(ours).collect::<Vec<_>>())
+            let numbers = trail.fixes.iter().map(|fix| (fix.t, fix.x, fix.y));
+            (unit(trail.kind), mark, numbers.collect::<Vec<_>>())
         });
         let read = trails::check(&case.bytes).and_then(|head| {
             let fixes = trails::fixes(&case.bytes)?;
-            assert_eq!(fixes.len(), head.count as usize, "{}", case.name);
-            Ok((head.mark, fixes))
+            let facts = (fixes.unit(), fixes.count());
+            assert_eq!(facts, (head.unit, head.count as usize), "{}", case.name);
+            Ok((head.unit, head.mark, fixes.numbers()))
         });
         assert_eq!(number(read), expected, "{}", case.name);
         let text = match number(trails::list(&case.bytes)) {
@@ -54,36 +75,71 @@ fn a_refused_count_is_told() {
 }
 
 #[test]
-fn fixes_are_written_and_read_again() {
-    for case in cases() {
-        let Ok(fixes) = trails::fixes(&case.bytes) else {
-            continue;
-        };
-        let record = trails::write(&fixes).expect("accepted fixes are written");
-        assert_eq!(trails::fixes(&record).as_ref(), Ok(&fixes), "{}", case.name);
-        let length = trails::check(&record).map(|head| head.length());
-        assert_eq!(length, Ok(record.len()), "{}", case.name);
-        let mut short = vec![7; record.len() - 1];
-        let refused = trails::write_into(&fixes, &mut short);
-        assert_eq!(refused, Err(Refusal::ShortOutput), "{}", case.name);
-        assert!(short.iter().all(|byte| *byte == 7), "{}", case.name);
+fn a_refused_kind_has_no_unit() {
+    let bytes = trails::write(&[MillimetreFix { t: 7, x: -1, y: 2 }]).expect("a record");
+    for (kind, unit) in [
+        (0, None),
+        (2, Some(Unit::Millimetres)),
+        (3, None),
+        (258, None),
+    ] {
+        let mut bytes = bytes.clone();
+        bytes[4..6].copy_from_slice(&u16::to_le_bytes(kind));
+        assert_eq!(trails::claimed_unit(&bytes), unit);
+        assert_eq!(trails::claimed_unit(&bytes[..9]), None);
+        assert_eq!(trails::check(&bytes).map(|head| head.unit).ok(), unit);
     }
 }
 
 #[test]
-fn lists_that_are_no_trail_are_turned_away() {
-    let fix = |t, x| Fix { t, x, y: 0 };
-    let rising = |n: u32| (0..n).map(|t| fix(t, 0)).collect::<Vec<_>>();
-    let written = |list: &[Fix]| trails::write(list).map(|record| record.len());
+fn fixes_are_written_and_read_again() {
+    for case in cases() {
+        match trails::fixes(&case.bytes) {
+            Ok(Fixes::Centimetres(list)) => {
+                let read = Fixes::Centimetres(list.clone());
+                are_written_and_read_again(&list, read, &case.name);
+            }
+            Ok(Fixes::Millimetres(list)) => {
+                let read = Fixes::Millimetres(list.clone());
+                are_written_and_read_again(&list, read, &case.name);
+            }
+            Err(_) => {}
+        }
+    }
+}
+
+fn are_written_and_read_again<F: InUnit>(list: &[F], fixes: Fixes, name: &str) {
+    let record = trails::write(list).expect("accepted fixes are written");
+    assert_eq!(trails::fixes(&record), Ok(fixes), "{name}");
+    let head = trails::check(&record).map(|head| (head.unit, head.length()));
+    assert_eq!(head, Ok((F::UNIT, record.len())), "{name}");
+    let mut short = vec![7; record.len() - 1];
+    let refused = trails::write_into(list, &mut short);
+    assert_eq!(refused, Err(Refusal::ShortOutput), "{name}");
+    assert!(short.iter().all(|byte| *byte == 7), "{name}");
+}
+
+/// Each limit of a unit met, and passed by one: its lengths are 0, one at the limit, and one beyond it.
+fn are_turned_away<F: InUnit>(longest: usize, [none, most, beyond]: [F::Length; 3]) {
+    let fix = |t, x| F::new(t, x, none);
+    let rising = |n: u32| (0..n).map(|t| fix(t, none)).collect::<Vec<_>>();
+    let written = |list: &[F]| trails::write(list).map(|record| record.len());
     assert_eq!(written(&[]), Err(Refusal::BadCount));
     assert_eq!(written(&rising(4_097)), Err(Refusal::BadCount));
-    assert_eq!(written(&rising(4_096)), Ok(trails::LONGEST));
-    assert_eq!(written(&[fix(0, 16_001)]), Err(Refusal::Misplaced));
-    assert_eq!(written(&[fix(1, 0), fix(1, 0)]), Err(Refusal::Unordered));
-    assert_eq!(
-        written(&[fix(0, 0), fix(65_536, 0)]),
-        Err(Refusal::LongSpan)
-    );
+    assert_eq!(written(&rising(4_096)), Ok(longest));
+    let length = F::UNIT.limits().fix_bytes + 10;
+    assert_eq!(written(&[fix(0, most)]), Ok(length));
+    assert_eq!(written(&[fix(0, beyond)]), Err(Refusal::Misplaced));
+    let equal = [fix(1, none), fix(1, none)];
+    assert_eq!(written(&equal), Err(Refusal::Unordered));
+    let long = [fix(0, none), fix(65_536, none)];
+    assert_eq!(written(&long), Err(Refusal::LongSpan));
+}
+
+#[test]
+fn lists_that_are_no_trail_are_turned_away() {
+    are_turned_away::<Fix>(32_778, [0, -16_000, 16_001]);
+    are_turned_away::<MillimetreFix>(49_162, [0, -160_000, 160_001]);
 }
 
 fn plainly(aging: Aging, buffer: &mut [u8]) -> Result<u32, u8> {
@@ -102,6 +158,7 @@ fn records_are_aged() {
         for aging in [
             Aging::Tolerance(e),
             Aging::Tolerance(32_001),
+            Aging::Tolerance(60_001),
             Aging::Days(days),
         ] {
             let (mut aged, mut expected) = (case.bytes.clone(), case.bytes.clone());
@@ -114,14 +171,17 @@ fn records_are_aged() {
 
 #[test]
 fn agings_apply_what_the_table_says() {
-    let record = trails::write(&[Fix { t: 0, x: 0, y: 0 }]).expect("a record");
-    let tolerances = (0..=u16::MAX).map(Aging::Tolerance);
-    for aging in tolerances.chain((0..=u16::MAX).map(Aging::Days)) {
-        let mut aged = record.clone();
-        // a refused aging leaves the record marked never, as one that applies nothing does
-        let _ = aging.apply(&mut aged);
-        let mark = trails::check(&aged).expect("a record").mark;
-        assert_eq!(aging.applies(), mark, "{aging:?}");
+    let fixes = vec![plain::Fix::from((0, 0, 0))];
+    for kind in [CENTIMETRES, MILLIMETRES] {
+        let record = plain::Trail::never_thinned(kind, fixes.clone()).bytes();
+        let tolerances = (0..=u16::MAX).map(Aging::Tolerance);
+        for aging in tolerances.chain((0..=u16::MAX).map(Aging::Days)) {
+            let mut aged = record.clone();
+            // a refused aging leaves the record marked never, as one that applies nothing does
+            let _ = aging.apply(&mut aged);
+            let mark = trails::check(&aged).expect("a record").mark;
+            assert_eq!(aging.applies(unit(kind)), mark, "{kind}, {aging:?}");
+        }
     }
 }
 
@@ -151,13 +211,14 @@ fn places_are_told() {
     }
 }
 
-fn some_box(random: &mut Random) -> Area {
-    let mut edges = [0; 4].map(|_| random.between(-16_000, 16_000) as i32);
+fn some_box(kind: Kind, random: &mut Random) -> Area {
+    let limit = i64::from(kind.limit);
+    let mut edges = [0; 4].map(|_| random.between(-limit, limit) as i32);
     edges[..2].sort_unstable();
     edges[2..].sort_unstable();
     let [left, right, bottom, top] = edges;
     Area {
-        left: left - i32::from(random.one_in(20)) * 20_000,
+        left: left - i32::from(random.one_in(20)) * 2 * kind.limit,
         right,
         bottom,
         top,
@@ -176,7 +237,7 @@ fn crossings_are_told_before_and_after_agings() {
             start: one.min(other),
             end: one.max(other),
         };
-        let area = some_box(&mut random);
+        let area = some_box(case.kind(), &mut random);
         agrees(&case.bytes, area, window, &case.name);
         after_a_list(&case, area, window);
     }
@@ -185,7 +246,7 @@ fn crossings_are_told_before_and_after_agings() {
 fn after_a_list(case: &Case, area: Area, window: Window) {
     let list = [
         Aging::Days(7),
-        Aging::Tolerance(40_000),
+        Aging::Tolerance(60_001),
         Aging::Tolerance(9),
     ];
     let mut in_turn = case.bytes.clone();

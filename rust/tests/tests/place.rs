@@ -1,11 +1,12 @@
 //! The place question: the fraction as document 01 has it, the rounded place beside it, mirrored trails, and each refusal.
 #![forbid(unsafe_code)]
 
-use trails_tests::cases::{buffer, Random, Settings, Tally};
+use trails_tests::cases::{buffer, kind_of, Random, Settings, Tally};
 use trails_tests::interface::Place;
-use trails_tests::plain::{Fix, MOST_FIXES};
+use trails_tests::plain::kinds::{Kind, CENTIMETRES, KINDS, MILLIMETRES};
+use trails_tests::plain::{Fix, Trail, MOST_FIXES};
 use trails_tests::questions::{asked_of_every_shape, place, refused_in_order, Moment};
-use trails_tests::shapes::{trail, SHAPES};
+use trails_tests::shapes::{every_kind_and_shape, trail};
 
 /// The rounded number is the nearest one to n/d, and of two that are as near the one further from 0.
 fn is_nearest(whole: i32, n: i64, d: u32, name: &str) {
@@ -24,14 +25,14 @@ fn is_rounded(answer: &Place, name: &str) {
 
 /// A trail, a moment, and the place by hand.
 struct Row {
-    fixes: &'static [(u32, i16, i16)],
+    fixes: &'static [(u32, i32, i32)],
     moment: (u32, u16),
     fraction: (i64, i64, u32),
     whole: (i32, i32),
 }
 
 const fn row(
-    fixes: &'static [(u32, i16, i16)],
+    fixes: &'static [(u32, i32, i32)],
     moment: (u32, u16),
     fraction: (i64, i64, u32),
     whole: (i32, i32),
@@ -44,13 +45,13 @@ const fn row(
     }
 }
 
-const K: &[(u32, i16, i16)] = &[(0, 0, 0), (10, 5, -5)];
-const LEGS: &[(u32, i16, i16)] = &[(100, 1, 2), (101, 3, 2), (103, 3, 8)];
-const WALLS: &[(u32, i16, i16)] = &[
+const K: &[(u32, i32, i32)] = &[(0, 0, 0), (10, 5, -5)];
+const LEGS: &[(u32, i32, i32)] = &[(100, 1, 2), (101, 3, 2), (103, 3, 8)];
+const WALLS: &[(u32, i32, i32)] = &[
     (4_294_901_760, -16_000, 16_000),
     (4_294_967_295, 16_000, -16_000),
 ];
-const LONE: &[(u32, i16, i16)] = &[(u32::MAX, 16_000, -16_000)];
+const LONE: &[(u32, i32, i32)] = &[(u32::MAX, 16_000, -16_000)];
 
 const ROWS: [Row; 14] = [
     // document 01's trail k, where halves go away from 0 on both sides, and what is next to halves
@@ -82,22 +83,77 @@ const ROWS: [Row; 14] = [
     row(LONE, (u32::MAX, 0), (16_000, -16_000, 1), (16_000, -16_000)),
 ];
 
-#[test]
-fn trails_worked_by_hand() {
-    for row in &ROWS {
-        let fixes: Vec<Fix> = row.fixes.iter().copied().map(Fix::from).collect();
-        let (second, thousandths) = row.moment;
+impl Row {
+    fn holds(&self, kind: Kind) {
+        let fixes: Vec<Fix> = self.fixes.iter().copied().map(Fix::from).collect();
+        let (second, thousandths) = self.moment;
         let moment = Moment {
             second,
             thousandths,
         };
-        let name = format!("{fixes:?}");
-        let answer = place(&buffer(&fixes), moment, &name);
+        let name = format!("{kind}, {fixes:?}");
+        let bytes = buffer(&Trail::never_thinned(kind, fixes));
+        let answer = place(&bytes, moment, &name);
         let fraction = (answer.x, answer.y, answer.denominator);
-        assert_eq!(fraction, row.fraction, "{name}, {moment:?}");
+        assert_eq!(fraction, self.fraction, "{name}, {moment:?}");
         let whole = (answer.whole_x, answer.whole_y);
-        assert_eq!(whole, row.whole, "{name}, {moment:?}");
+        assert_eq!(whole, self.whole, "{name}, {moment:?}");
     }
+}
+
+/// What is a place in centimetres is one in millimetres too.
+#[test]
+fn trails_worked_by_hand() {
+    for row in &ROWS {
+        KINDS.into_iter().for_each(|kind| row.holds(kind));
+    }
+}
+
+const FAR_WALLS: &[(u32, i32, i32)] = &[
+    (4_294_901_760, -160_000, 160_000),
+    (4_294_967_295, 160_000, -160_000),
+];
+const TENTHS: &[(u32, i32, i32)] = &[(7, 159_999, -65_536), (27, 160_000, -65_535)];
+
+const IN_MILLIMETRES: [Row; 5] = [
+    // the largest numbers of every sort
+    row(
+        FAR_WALLS,
+        (4_294_901_760, 0),
+        (-10_485_600_000_000, 10_485_600_000_000, 65_535_000),
+        (-160_000, 160_000),
+    ),
+    row(
+        FAR_WALLS,
+        (4_294_967_295, 0),
+        (10_485_600_000_000, -10_485_600_000_000, 65_535_000),
+        (160_000, -160_000),
+    ),
+    // 320,000 in 65,535,000 thousandths: one of them is 1/205 on
+    row(
+        FAR_WALLS,
+        (4_294_967_294, 999),
+        (10_485_599_680_000, -10_485_599_680_000, 65_535_000),
+        (160_000, -160_000),
+    ),
+    // half a millimetre on, and a twenty-thousandth before it
+    row(
+        TENTHS,
+        (17, 0),
+        (3_199_990_000, -1_310_710_000, 20_000),
+        (160_000, -65_536),
+    ),
+    row(
+        TENTHS,
+        (16, 999),
+        (3_199_989_999, -1_310_710_001, 20_000),
+        (159_999, -65_536),
+    ),
+];
+
+#[test]
+fn trails_in_millimetres() {
+    IN_MILLIMETRES.iter().for_each(|row| row.holds(MILLIMETRES));
 }
 
 #[test]
@@ -111,18 +167,18 @@ fn trails_of_every_shape_are_answered_as_the_plain_version_does() {
 #[test]
 fn every_fix_of_the_longest_trails_is_at_its_own_place() {
     let mut random = Random::new(Settings::get().seed);
-    for shape in SHAPES {
-        let fixes = trail(shape, MOST_FIXES, &mut random);
-        let bytes = buffer(&fixes);
+    for (kind, shape) in every_kind_and_shape() {
+        let trail = trail(kind, shape, MOST_FIXES, &mut random);
+        let bytes = buffer(&trail);
         // every one would be slow, and these reach all parts of the record
-        for fix in fixes.iter().step_by(13).chain(fixes.last()) {
+        for fix in trail.fixes.iter().step_by(13).chain(trail.fixes.last()) {
             let moment = Moment {
                 second: fix.t,
                 thousandths: 0,
             };
             let answer = place(&bytes, moment, "the longest");
             let whole = (answer.whole_x, answer.whole_y);
-            assert_eq!(whole, (fix.x.into(), fix.y.into()), "{shape:?}, {fix:?}");
+            assert_eq!(whole, (fix.x, fix.y), "{kind}, {shape:?}, {fix:?}");
         }
     }
 }
@@ -133,7 +189,7 @@ fn halves_go_away_from_zero() {
     for d in 1..=12 {
         for x in -12..=12 {
             let fixes = [(7, 0, 1), (7 + d, x, 1 - x)].map(Fix::from);
-            let bytes = buffer(&fixes);
+            let bytes = buffer(&Trail::never_thinned(CENTIMETRES, fixes.into()));
             for half in 0..=2 * d {
                 let moment = Moment {
                     second: 7 + half / 2,
@@ -153,23 +209,31 @@ type Mirror = (bool, bool);
 
 const MIRRORS: [Mirror; 3] = [(true, false), (false, true), (true, true)];
 
-/// The record with each of its fixes mirrored, as far as fixes are lent. Two bytes have no opposite of −32,768, which is turned
-/// away: it stays.
+/// The record with each of its fixes mirrored, as far as fixes are lent. The least number that its bytes have has no
+/// opposite, and is turned away: it stays.
 fn mirrored(record: &[u8], (in_x, in_y): Mirror) -> Vec<u8> {
     let mut image = record.to_vec();
+    let Kind { width, .. } = kind_of(record, CENTIMETRES);
     let count = record
         .get(8..10)
         .map_or(0, |n| u16::from_le_bytes([n[0], n[1]]));
     let rest = image.get_mut(10..).unwrap_or_default();
-    for fix in rest.chunks_exact_mut(8).take(count.into()) {
-        for (at, is_mirrored) in [(4, in_x), (6, in_y)] {
+    for fix in rest.chunks_exact_mut(4 + 2 * width).take(count.into()) {
+        for (at, is_mirrored) in [(4, in_x), (4 + width, in_y)] {
             if is_mirrored {
-                let z = i16::from_le_bytes([fix[at], fix[at + 1]]);
-                fix[at..at + 2].copy_from_slice(&z.wrapping_neg().to_le_bytes());
+                turn_over(&mut fix[at..at + width]);
             }
         }
     }
     image
+}
+
+/// The opposite number, in two's complement: all bits the other way, and one more.
+fn turn_over(number: &mut [u8]) {
+    let mut carry = true;
+    for byte in number {
+        (*byte, carry) = (!*byte).overflowing_add(carry.into());
+    }
 }
 
 /// Of each mirrored record the answer is the mirrored one; of a refusal all else is 0, and stays.

@@ -5,10 +5,10 @@
 use trails_tests::cases::{Case, Cases, Random, Settings, Tally};
 use trails_tests::columns::Columns;
 use trails_tests::expected;
-use trails_tests::interface::{read, read_all};
+use trails_tests::interface::{read, read_all, Step};
 use trails_tests::plain;
 
-const RECORDS_OWN: [usize; 9] = [1, 2, 3, 4, 5, 6, 7, 8, 9];
+const RECORDS_OWN: [u32; 9] = [1, 2, 3, 4, 5, 6, 7, 8, 9];
 
 /// Holds a refusal to what is known of the case.
 fn is_known(refusal: u32, case: &Case) {
@@ -41,7 +41,7 @@ fn each_position_yields_what_the_plain_version_does() {
             assert_eq!(step, want, "{}, position {position}", case.name);
             is_known(step.refusal, &case);
         }
-        tally.count(read(&case.bytes, 0).refusal);
+        tally.count(case.kind(), read(&case.bytes, 0).refusal);
     }
     tally.expect("read", &RECORDS_OWN);
 }
@@ -79,8 +79,40 @@ fn columns_of_any_length_get_as_many_fixes_as_they_hold() {
             if answer.refusal != 0 {
                 assert!(columns == before, "{name}: a refusal fills columns");
             }
-            tally.count(answer.refusal);
+            tally.count(case.kind(), answer.refusal);
         }
     }
     tally.expect("read into columns", &RECORDS_OWN);
+}
+
+/// By hand: two fixes in millimetres, with coordinates of which two bytes say nothing.
+#[test]
+fn a_record_in_millimetres_is_read() {
+    let record = [
+        &[34, 0, 0, 0, 2, 0, 0xFF, 0xFF, 2, 0][..],
+        &[0, 0, 0, 0, 0, 0, 1, 0, 0, 0, 0xFF, 0xFF],
+        &[255, 255, 0, 0, 0, 0x8F, 0xFD, 0xFF, 0, 0x71, 2, 0],
+    ]
+    .concat();
+    let fix = |t, x, y| Step {
+        refusal: 0,
+        found: 1,
+        kind: 2,
+        t,
+        x,
+        y,
+    };
+    let fixes = [fix(0, 65_536, -65_536), fix(65_535, -160_000, 160_000)];
+    assert_eq!([read(&record, 0), read(&record, 1)], fixes);
+    assert_eq!(read(&record, 2), Step::default());
+    let mut columns = Columns {
+        t: vec![7; 2],
+        x: vec![7; 1],
+        y: vec![7; 3],
+    };
+    let answer = read_all(&record, &mut columns);
+    assert_eq!((answer.refusal, answer.value), (0, 2));
+    let Columns { t, x, y } = columns;
+    assert_eq!((t, x), (vec![0, 65_535], vec![65_536]));
+    assert_eq!(y, [-65_536, 160_000, 7]);
 }

@@ -3,7 +3,7 @@
 use std::ffi::OsStr;
 use std::io::{self, IsTerminal, Read, Write};
 
-use trails::Aging;
+use trails::{Aging, Unit};
 
 use crate::arguments::{Arguments, Command};
 use crate::failure::{Failure, Status};
@@ -37,20 +37,22 @@ leaves the old file byte for byte, and so does one that can't keep its group.
 An interrupted one may leave a FILE.tmp-NUMBER beside it, which can be deleted.
 Of a file with several names only the given one is aged.
 
-  --tolerance E  the tolerance in centimetres, 0 to 32,000
-  --days D       the tolerance of a table: from day 2, 10; from day 7, 25;
+  --tolerance E  the tolerance in each trail's own unit: 0 to 32,000 cm, or
+                 0 to 60,000 mm
+  --days D       the tolerance of a table: from day 2, 10 cm; from day 7, 25;
                  from day 30, 100; from day 90, 400; days 0 and 1 change
                  nothing
   -o OUT         store the aged trail there and leave FILE, which may then be
                  '-', the standard input. If OUT is '-', the standard output,
                  the answer is on standard error
-  --json         print one line for each file: {\"file\", \"before\", \"count\",
-                 \"mark\", \"measured\", \"freed\"},
+  --json         print one line for each file: {\"file\", \"unit\", \"before\",
+                 \"count\", \"mark\", \"measured\", \"freed\"},
                  {\"file\", \"refused\", \"sentence\"} or {\"file\", \"failed\"}
 ";
 
 /// What an aging did to a trail.
 struct Aged {
+    unit: Unit,
     before: u32,
     count: u32,
     mark: Option<u16>,
@@ -70,6 +72,7 @@ fn age(name: &OsStr, mut bytes: Vec<u8>, aging: Aging) -> Result<Aged, Failure> 
     let freed = gone.len();
     bytes.drain(gone);
     Ok(Aged {
+        unit: after.unit,
         before: before.count,
         count: after.count,
         mark: after.mark,
@@ -167,7 +170,7 @@ fn summary(ends: &[Status], freed: usize) -> String {
 }
 
 fn text(name: &OsStr, aged: &Aged) -> String {
-    let (file, mark) = (words::shown(name), words::mark(aged.mark));
+    let (file, mark) = (words::shown(name), words::mark(aged.mark, aged.unit));
     let kept = format!("kept {} of {} fixes", aged.count, aged.before);
     let (measured, freed) = (aged.measured, aged.freed);
     format!("{file}: {kept}, measured {measured}, mark {mark}, freed {freed} bytes")
@@ -189,11 +192,12 @@ fn answer(name: &OsStr, aged: &Aged, json: bool) -> Result<(), Failure> {
 fn fields(name: &OsStr, aged: &Aged) -> Json {
     Json::Object(vec![
         ("file", Json::text(name)),
+        ("unit", Json::unit(aged.unit)),
         ("before", Json::Whole(aged.before.into())),
         ("count", Json::Whole(aged.count.into())),
         ("mark", Json::mark(aged.mark)),
         ("measured", Json::Whole(aged.measured.into())),
-        ("freed", Json::Whole(aged.freed as i64)),
+        ("freed", Json::Whole(aged.freed as i128)),
     ])
 }
 

@@ -143,8 +143,11 @@ impl Arguments {
         let Some((choice, values)) = self.given(name) else {
             return Ok(None);
         };
+        let Some(range) = choice.range else {
+            return Ok(None);
+        };
         let number = |(value, named): (&OsString, &&str)| {
-            let number = whole(&value.to_string_lossy(), choice.range);
+            let number = whole(&value.to_string_lossy(), range);
             number.map_err(|what| self.wrong(&format!("{name}, {named}: {what}")))
         };
         let numbers: Result<Vec<N>, Failure> =

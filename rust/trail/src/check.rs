@@ -18,11 +18,12 @@ pub const COMMAND: Command = Command {
 const HELP: &str = "\
 usage: trail check [--json] FILE...
 
-Says of each FILE how many fixes its trail has, from which second to which,
-and its mark, or why it is refused. Goes on past a refused file.
+Says of each FILE how many fixes its trail has, from which second to which, in
+which unit its places are, and its mark, or why it is refused. Goes on past a
+refused file.
 
   --json   print one line for each file:
-           {\"file\", \"count\", \"first\", \"last\", \"mark\"},
+           {\"file\", \"unit\", \"count\", \"first\", \"last\", \"mark\"},
            {\"file\", \"refused\", \"sentence\"} or {\"file\", \"failed\"}
 ";
 
@@ -44,13 +45,17 @@ fn check(name: &OsStr, json: bool) -> Result<(), Failure> {
     let trail = Trail::read(name)?;
     let (count, first, last) = (trail.fixes.len(), trail.first(), trail.last());
     if !json {
-        let (file, mark) = (words::shown(name), words::mark(trail.mark));
+        let (file, mark) = (words::shown(name), words::mark(trail.mark, trail.unit));
         let times = format!("seconds {first} to {last}");
-        return output::print(&format!("{file}: fixes {count}, {times}, mark {mark}\n"));
+        let places = format!("places in {}", trail.unit.symbol());
+        return output::print(&format!(
+            "{file}: fixes {count}, {times}, {places}, mark {mark}\n"
+        ));
     }
     output::print_json(Json::Object(vec![
         ("file", Json::text(name)),
-        ("count", Json::Whole(count as i64)),
+        ("unit", Json::unit(trail.unit)),
+        ("count", Json::Whole(count as i128)),
         ("first", Json::Whole(first.into())),
         ("last", Json::Whole(last.into())),
         ("mark", Json::mark(trail.mark)),

@@ -2,7 +2,7 @@
 
 use std::ffi::OsString;
 
-use trails::Crossing;
+use trails::{Crossing, Unit};
 
 use crate::arguments::{Arguments, Command};
 use crate::failure::{Failure, Status};
@@ -21,19 +21,21 @@ const HELP: &str = "\
 usage: trail cross [--json] FILE --box X0 X1 Y0 Y1 --window S E
 
 Says whether the cart was in the box, x from X0 to X1 and y from Y0 to Y1, at
-some time from second S to second E, edges and both ends included. A yes comes
-with the earliest time: the seconds after the first fix as a fraction, and the
-same on the trail's own clock, cut off after the thousandths. The fraction isn't
-reduced; it is the same for the same trail and window at another time.
+some time from second S to second E, edges and both ends included. The box is
+in the trail's unit: centimetres, or, and then the answer says so, millimetres.
+A yes comes with the earliest time: the seconds after the first fix as a
+fraction, and the same on the trail's own clock, cut off after the thousandths.
+The fraction isn't reduced; it is the same for the same trail and window at
+another time.
 
 Then it says what that means of the original, the trail as the cart reported
 it, straight between its fixes: a no of a thinned trail is no proof that the
 cart wasn't in the box, but then it was near an edge. The mark is believed: of
 a record from elsewhere this holds if its mark is right.
 
-  --json   print one line: {\"file\", \"crosses\": true, \"numerator\",
+  --json   print one line: {\"file\", \"unit\", \"crosses\": true, \"numerator\",
            \"denominator\", \"first\": the first fix's second, \"mark\", \"means\"}
-           or {\"file\", \"crosses\": false, \"mark\", \"means\"}
+           or {\"file\", \"unit\", \"crosses\": false, \"mark\", \"means\"}
 ";
 
 fn run(arguments: &Arguments) -> Result<Status, Failure> {
@@ -45,10 +47,15 @@ fn run(arguments: &Arguments) -> Result<Status, Failure> {
     let trail = Trail::read(name)?;
     let crossing = trails::crosses(&trail.bytes, area, window);
     let crossing = crossing.map_err(|refusal| trail.refused(refusal))?;
-    let means = meaning::of_crossing(trail.mark, crossing.is_some());
+    let means = meaning::of_crossing(&trail, crossing.is_some());
+    let asked = match trail.unit {
+        Unit::Centimetres => "",
+        // who has asked in centimetres is to see that the trail isn't
+        Unit::Millimetres => ", the box in mm",
+    };
     match arguments.has("--json") {
         true => output::print_json(answer(&trail, crossing, means))?,
-        false => output::print(&format!("{}; {means}\n", text(&trail, crossing)))?,
+        false => output::print(&format!("{}{asked}; {means}\n", text(&trail, crossing)))?,
     }
     Ok(Status::Done)
 }
@@ -61,9 +68,8 @@ fn text(trail: &Trail, crossing: Option<Crossing>) -> String {
     else {
         return "no".into();
     };
-    // both below 2 to the power 32, so the product is far below 2 to the power 64
-    let after = 1000 * u64::from(numerator) / u64::from(denominator.max(1));
-    let moment = 1000 * u64::from(trail.first()) + after;
+    let after = 1000 * u128::from(numerator) / u128::from(denominator.max(1));
+    let moment = 1000 * u128::from(trail.first()) + after;
     let (second, thousandths) = (moment / 1000, moment % 1000);
     let fraction = format!("{numerator}/{denominator} seconds after the first fix");
     format!("yes, {fraction}, at {second}.{thousandths:03}")
@@ -72,6 +78,7 @@ fn text(trail: &Trail, crossing: Option<Crossing>) -> String {
 fn answer(trail: &Trail, crossing: Option<Crossing>, means: String) -> Json {
     let mut fields = vec![
         ("file", Json::text(&trail.name)),
+        ("unit", Json::unit(trail.unit)),
         ("crosses", Json::Truth(crossing.is_some())),
     ];
     if let Some(crossing) = crossing {

@@ -3,7 +3,7 @@
 use std::ffi::{OsStr, OsString};
 use std::fmt;
 
-use trails::Refusal;
+use trails::{Refusal, Unit};
 
 use crate::json::Json;
 use crate::words::shown;
@@ -62,7 +62,7 @@ impl Fact {
     /// What programs are told of it.
     fn fields(self) -> Vec<(&'static str, Json)> {
         match self {
-            Fact::Count(count) => vec![("count", Json::Whole(count as i64))],
+            Fact::Count(count) => vec![("count", Json::Whole(count as i128))],
             Fact::Seconds(first, last) => vec![
                 ("first", Json::Whole(first.into())),
                 ("last", Json::Whole(last.into())),
@@ -80,6 +80,15 @@ impl fmt::Display for Fact {
     }
 }
 
+/// What document 01 turns away, by the limits of a unit.
+#[derive(Debug)]
+pub struct Refused {
+    pub spot: Spot,
+    pub refusal: Refusal,
+    pub unit: Unit,
+    pub fact: Option<Fact>,
+}
+
 #[derive(Debug)]
 pub enum Failure {
     /// The command isn't given as its help says.
@@ -87,7 +96,7 @@ pub enum Failure {
     /// A line of a text isn't what it should be.
     Line(Spot, String),
     /// Document 01 turns it away.
-    Refused(Spot, Refusal, Option<Fact>),
+    Refused(Refused),
     /// A file couldn't be read or written.
     File(OsString, String),
     /// An answer couldn't be printed.
@@ -98,7 +107,7 @@ impl Failure {
     pub fn status(&self) -> Status {
         match self {
             Failure::Usage(_) | Failure::Line(..) => Status::Usage,
-            Failure::Refused(..) => Status::Refused,
+            Failure::Refused(_) => Status::Refused,
             Failure::File(..) | Failure::Unheard(_) => Status::Failed,
         }
     }
@@ -107,28 +116,33 @@ impl Failure {
     pub fn answer(&self) -> Option<Json> {
         let failed = |what: &String| vec![("failed", Json::text(what))];
         let (spot, what) = match self {
-            Failure::Refused(spot, refusal, fact) => {
-                let mut fields = Vec::from(refusal_fields(*refusal));
-                fields.extend(fact.map(Fact::fields).unwrap_or_default());
-                (spot.clone(), fields)
+            Failure::Refused(refused) => {
+                let mut fields = Vec::from(refusal_fields(refused.refusal, refused.unit));
+                fields.extend(refused.fact.map(Fact::fields).unwrap_or_default());
+                (refused.spot.clone(), fields)
             }
             Failure::Line(spot, what) => (spot.clone(), failed(what)),
             Failure::File(file, what) => (Spot::file(file), failed(what)),
             Failure::Usage(_) | Failure::Unheard(_) => return None,
         };
         let mut fields = vec![("file", Json::text(spot.file))];
-        fields.extend(spot.line.map(|line| ("line", Json::Whole(line as i64))));
+        fields.extend(spot.line.map(|line| ("line", Json::Whole(line as i128))));
         fields.extend(what);
         Some(Json::Object(fields))
     }
 }
 
 /// A refusal as programs read it.
-pub fn refusal_fields(refusal: Refusal) -> [(&'static str, Json); 2] {
+pub fn refusal_fields(refusal: Refusal, unit: Unit) -> [(&'static str, Json); 2] {
     [
         ("refused", Json::Whole(refusal.number().into())),
-        ("sentence", Json::text(refusal.to_string())),
+        ("sentence", Json::text(refusal.sentence(unit))),
     ]
+}
+
+/// A refusal as people read it.
+pub fn refusal_text(refusal: Refusal, unit: Unit) -> String {
+    format!("refused {}: {}", refusal.number(), refusal.sentence(unit))
 }
 
 impl fmt::Display for Failure {
@@ -136,8 +150,10 @@ impl fmt::Display for Failure {
         match self {
             Failure::Usage(what) => write!(to, "trail: {what}"),
             Failure::Line(spot, what) => write!(to, "{spot}: {what}"),
-            Failure::Refused(spot, refusal, fact) => {
-                write!(to, "{spot}: refused {}: {refusal}", refusal.number())?;
+            Failure::Refused(refused) => {
+                let what = refusal_text(refused.refusal, refused.unit);
+                write!(to, "{}: {what}", refused.spot)?;
+                let fact = refused.fact;
                 fact.map_or(Ok(()), |fact| write!(to, " {fact}"))
             }
             Failure::File(file, what) => write!(to, "{}: {what}", shown(file)),

@@ -3,12 +3,15 @@
 use std::ffi::{OsStr, OsString};
 use std::fmt;
 
+use trails::Unit;
+
+use crate::trail::Fix;
 use crate::words;
 
 pub enum Json {
     Null,
     Truth(bool),
-    Whole(i64),
+    Whole(i128),
     /// A text, or a file's name, exactly: a byte that isn't UTF-8 is a lone surrogate, \udc80 to \udcff, as Python has it.
     Text(OsString),
     List(Vec<Json>),
@@ -25,9 +28,14 @@ impl Json {
         mark.map_or(Json::Null, |mark| Json::Whole(mark.into()))
     }
 
+    /// The unit of all lengths of an answer.
+    pub fn unit(unit: Unit) -> Json {
+        Json::text(unit.symbol())
+    }
+
     /// Fixes as lists of time, x and y.
-    pub fn fixes(fixes: &[trails::Fix]) -> Json {
-        let numbers = |fix: &trails::Fix| [fix.t.into(), fix.x.into(), fix.y.into()];
+    pub fn fixes(fixes: &[Fix]) -> Json {
+        let numbers = |fix: &Fix| [fix.t.into(), fix.x.into(), fix.y.into()];
         let list = |fix| Json::List(numbers(fix).map(Json::Whole).into());
         Json::List(fixes.iter().map(list).collect())
     }

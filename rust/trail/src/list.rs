@@ -19,10 +19,11 @@ const HELP: &str = "\
 usage: trail list [--json] FILE
 
 Prints the trail that FILE begins with: its count and mark ('never' for one
-that was never thinned), then time, x and y of each fix, then 'end'.
+that was never thinned), then time, x and y of each fix, then 'end'. The unit
+of its lengths isn't in it; 'trail check' says that.
 
   --json   print one line:
-           {\"file\", \"count\", \"mark\", \"fixes\": [[t, x, y], ...]}
+           {\"file\", \"unit\", \"count\", \"mark\", \"fixes\": [[t, x, y], ...]}
 ";
 
 fn run(arguments: &Arguments) -> Result<Status, Failure> {
@@ -35,7 +36,8 @@ fn run(arguments: &Arguments) -> Result<Status, Failure> {
     }
     output::print_json(Json::Object(vec![
         ("file", Json::text(name)),
-        ("count", Json::Whole(trail.fixes.len() as i64)),
+        ("unit", Json::unit(trail.unit)),
+        ("count", Json::Whole(trail.fixes.len() as i128)),
         ("mark", Json::mark(trail.mark)),
         ("fixes", Json::fixes(&trail.fixes)),
     ]))?;

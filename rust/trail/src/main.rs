@@ -58,8 +58,10 @@ usage: trail COMMAND ARGUMENTS
 
 'trail help COMMAND' says more. A file '-' is the standard input or output.
 After '--' no argument is an option, and '-' is a file's name. '--box 0 9 0 9'
-and '--box=0,9,0,9' are the same. Times are in seconds and places in
-centimetres. Of a file that is read, what follows its trail is ignored.
+and '--box=0,9,0,9' are the same. Times are in seconds, and the lengths that a
+trail has, is asked with and is answered with in its own unit: centimetres, or
+millimetres if it was written so. Of a file that is read, what follows its
+trail is ignored.
 
 With --json the answer is one line of JSON, and so is a refusal, {\"file\",
 \"refused\", \"sentence\"}, or a failure, {\"file\", \"failed\"}. Refusal 3 has
@@ -72,7 +74,7 @@ Exit status: 0 done; 1 refused, with the refusal's number and sentence;
 printed.
 ";
 
-/// An aging takes up to 600,000 bytes of stack, whatever limit the shell has set for the first thread.
+/// An aging takes up to 730,000 bytes of stack, whatever limit the shell has set for the first thread.
 const STACK: usize = 4 << 20;
 
 fn main() -> ExitCode {

@@ -1,18 +1,47 @@
 //! Numbers as people give them.
 
 use std::ffi::OsStr;
+use std::fmt;
 use std::os::unix::ffi::OsStrExt;
 use std::str::FromStr;
 
-use trails::Moment;
+use trails::{in_threes, of_both_units, Moment, Unit};
 
 use crate::words;
 
-/// The ranges that document 01 has, for messages. A number that the interface takes is refused by the interface alone.
-pub const TOLERANCES: &str = "0 to 32,000";
-pub const DAYS: &str = "0 to 65,535";
-pub const PLACES: &str = "-16,000 to 16,000";
-pub const SECONDS: &str = "0 to 4,294,967,295";
+/// A range of numbers, for messages. A number that the interface takes is refused by the interface alone. Lengths have
+/// the range of their unit or, where that isn't known yet, both.
+#[derive(Clone, Copy)]
+pub enum Range {
+    Seconds,
+    Thousandths,
+    Days,
+    Tolerances(Option<Unit>),
+    Places(Option<Unit>),
+}
+
+fn of_unit(unit: Option<Unit>, range: fn(Unit) -> String) -> String {
+    unit.map_or_else(|| of_both_units(range), range)
+}
+
+impl fmt::Display for Range {
+    fn fmt(&self, to: &mut fmt::Formatter) -> fmt::Result {
+        let up_to = |most: u32| format!("0 to {}", in_threes(most));
+        to.write_str(&match self {
+            Range::Seconds => up_to(u32::MAX),
+            Range::Thousandths => up_to(999),
+            Range::Days => up_to(u16::MAX.into()),
+            Range::Tolerances(unit) => {
+                let most = |unit: Unit| in_threes(unit.limits().tolerance);
+                format!("0 to {}", of_unit(*unit, most))
+            }
+            Range::Places(unit) => of_unit(*unit, |unit| {
+                let most = in_threes(unit.limits().place.unsigned_abs());
+                format!("-{most} to {most}")
+            }),
+        })
+    }
+}
 
 /// Whether a word begins as a number does.
 pub fn is_number(word: &OsStr) -> bool {
@@ -23,7 +52,7 @@ pub fn is_number(word: &OsStr) -> bool {
 }
 
 /// The number that a word has, or what is wrong with the word.
-pub fn whole<N: FromStr>(word: &str, range: &str) -> Result<N, String> {
+pub fn whole<N: FromStr>(word: &str, range: Range) -> Result<N, String> {
     word.parse().map_err(|_| {
         // a hostile word may be long
         let start: String = word.chars().take(40).collect();
@@ -40,8 +69,8 @@ pub fn moment(word: &str) -> Result<Moment, String> {
         return Err("after the point stand one to three digits".into());
     }
     Ok(Moment {
-        second: whole(second, SECONDS)?,
-        thousandths: whole(&format!("{part:0<3}"), "0 to 999")?,
+        second: whole(second, Range::Seconds)?,
+        thousandths: whole(&format!("{part:0<3}"), Range::Thousandths)?,
     })
 }
 
@@ -73,9 +102,19 @@ mod tests {
 
     #[test]
     fn wrong_numbers_are_shown_harmlessly() {
-        let what = whole::<u16>("\u{1b}[2J", TOLERANCES).expect_err("no number");
-        assert_eq!(what, "'\\u{1b}[2J' isn't a whole number from 0 to 32,000");
-        let long = whole::<i16>(&"9".repeat(1_000_000), PLACES);
+        let what = whole::<u16>("\u{1b}[2J", Range::Days).expect_err("no number");
+        assert_eq!(what, "'\\u{1b}[2J' isn't a whole number from 0 to 65,535");
+        let long = whole::<i16>(&"9".repeat(1_000_000), Range::Seconds);
         assert!(long.is_err_and(|what| what.len() < 100));
+    }
+
+    #[test]
+    fn ranges_of_lengths_are_those_of_their_unit_or_of_both() {
+        let [one, other] = Unit::ALL.map(Some);
+        assert_eq!(Range::Tolerances(one).to_string(), "0 to 32,000");
+        assert_eq!(Range::Places(other).to_string(), "-160,000 to 160,000");
+        let both = Range::Tolerances(None).to_string();
+        assert_eq!(both, "0 to 32,000 (in millimetres 60,000)");
+        assert_eq!(Range::Seconds.to_string(), "0 to 4,294,967,295");
     }
 }

@@ -4,19 +4,19 @@ use std::ffi::{OsStr, OsString};
 use std::iter::Peekable;
 use std::os::unix::ffi::OsStrExt;
 
-use crate::numbers::{is_number, DAYS, PLACES, SECONDS, TOLERANCES};
+use crate::numbers::{is_number, Range};
 
 /// An option: its name, the names of its values, and the range of each, if they are numbers.
 pub struct Choice {
     pub name: &'static str,
     pub values: &'static [&'static str],
-    pub range: &'static str,
+    pub range: Option<Range>,
 }
 
 const fn choice(
     name: &'static str,
     values: &'static [&'static str],
-    range: &'static str,
+    range: Option<Range>,
 ) -> Choice {
     Choice {
         name,
@@ -25,15 +25,18 @@ const fn choice(
     }
 }
 
-pub static OPTIONS: [Choice; 8] = [
-    choice("--json", &[], ""),
-    choice("--force", &[], ""),
-    choice("--tolerance", &["E"], TOLERANCES),
-    choice("--days", &["D"], DAYS),
-    choice("--box", &["X0", "X1", "Y0", "Y1"], PLACES),
-    choice("--window", &["S", "E"], SECONDS),
-    choice("--original", &["FILE"], ""),
-    choice("-o", &["OUT"], ""),
+const EDGES: &[&str] = &["X0", "X1", "Y0", "Y1"];
+
+pub static OPTIONS: [Choice; 9] = [
+    choice("--json", &[], None),
+    choice("--force", &[], None),
+    choice("--millimetres", &[], None),
+    choice("--tolerance", &["E"], Some(Range::Tolerances(None))),
+    choice("--days", &["D"], Some(Range::Days)),
+    choice("--box", EDGES, Some(Range::Places(None))),
+    choice("--window", &["S", "E"], Some(Range::Seconds)),
+    choice("--original", &["FILE"], None),
+    choice("-o", &["OUT"], None),
 ];
 
 impl Choice {
@@ -41,8 +44,8 @@ impl Choice {
     /// one is seen.
     pub fn next<'a>(&self, words: &mut Peekable<impl Iterator<Item = &'a OsStr>>) -> Vec<OsString> {
         let suits = |word: &&OsStr| match self.range {
-            "" => !is_option(word),
-            _ => is_number(word),
+            None => !is_option(word),
+            Some(_) => is_number(word),
         };
         let next = |_: &&str| words.next_if(suits);
         let values = self.values.iter().map_while(next);

@@ -21,14 +21,15 @@ pub const COMMAND: Command = Command {
 const HELP: &str = "\
 usage: trail place [--json] FILE SECOND[.mmm]
 
-Prints where the cart was at a moment: x and y in whole centimetres, halves
-away from 0, and the same exactly, as fractions that aren't reduced. Then it
-says what that means of the original, the trail as the cart reported it,
-straight between its fixes: if FILE's trail was thinned, within how many
-centimetres of the exact place the original was at that moment. The mark is
-believed: of a record from elsewhere this holds if its mark is right.
+Prints where the cart was at a moment: x and y in whole centimetres, or in
+whole millimetres if the trail is in those, halves away from 0, and the same
+exactly, as fractions that aren't reduced. Then it says what that means of the
+original, the trail as the cart reported it, straight between its fixes: if
+FILE's trail was thinned, within which distance of the exact place the original
+was at that moment. The mark is believed: of a record from elsewhere this holds
+if its mark is right.
 
-  --json   print one line: {\"file\", \"x\", \"y\",
+  --json   print one line: {\"file\", \"unit\", \"x\", \"y\",
            \"exact\": {\"x\", \"y\", \"denominator\"}, \"mark\", \"means\"}
 ";
 
@@ -50,23 +51,25 @@ fn text(trail: &Trail, found: Place) -> String {
         denominator, x, y, ..
     } = found;
     let (whole_x, whole_y) = (found.whole_x, found.whole_y);
+    let unit = trail.unit.symbol();
     let exact = format!("exact {x}/{denominator} {y}/{denominator}");
-    let means = meaning::of_place(trail.mark);
-    format!("place {whole_x} {whole_y}\n{exact}\n{means}\n")
+    let means = meaning::of_place(trail);
+    format!("place {whole_x} {whole_y} {unit}\n{exact}\n{means}\n")
 }
 
 fn answer(trail: &Trail, found: Place) -> Json {
     let exact = Json::Object(vec![
-        ("x", Json::Whole(found.x)),
-        ("y", Json::Whole(found.y)),
+        ("x", Json::Whole(found.x.into())),
+        ("y", Json::Whole(found.y.into())),
         ("denominator", Json::Whole(found.denominator.into())),
     ]);
     Json::Object(vec![
         ("file", Json::text(&trail.name)),
+        ("unit", Json::unit(trail.unit)),
         ("x", Json::Whole(found.whole_x.into())),
         ("y", Json::Whole(found.whole_y.into())),
         ("exact", exact),
         ("mark", Json::mark(trail.mark)),
-        ("means", Json::text(meaning::of_place(trail.mark))),
+        ("means", Json::text(meaning::of_place(trail))),
     ])
 }

@@ -3,14 +3,14 @@
 use std::ffi::{OsStr, OsString};
 use std::fmt::Write as _;
 
-use trails::{Aging, Refusal};
+use trails::{Aging, Head, Refusal, Unit};
 
 use crate::arguments::{Arguments, Command};
-use crate::failure::{refusal_fields, Failure, Status};
+use crate::failure::{refusal_fields, refusal_text, Failure, Status};
 use crate::json::Json;
-use crate::numbers::{whole, DAYS, TOLERANCES};
-use crate::trail::{refused, Trail};
-use crate::{files, lines, output};
+use crate::numbers::{whole, Range};
+use crate::trail::{fixes, refused, Trail};
+use crate::{files, lines, output, words};
 
 pub const COMMAND: Command = Command {
     name: "replay",
@@ -26,13 +26,14 @@ Ages a copy of FILE's trail by each line of CALLS, which is
 
   tolerance E      or      days D
 
-and prints each answer, refused ones too. Then it prints E, the greatest
-tolerance that the calls applied ('none' if none did), and the trail's listing
-with its mark and fixes. Of a trail marked never, the fixes are those that one
-thinning at E keeps. FILE stays as it is. Empty lines and comments from '#' on
-are skipped.
+with E in the trail's unit, and prints each answer, refused ones too. Then it
+prints E, the greatest tolerance that the calls applied ('none' if none did),
+and the trail's listing with its mark and fixes. Of a trail marked never, the
+fixes are those that one thinning at E keeps. FILE stays as it is. Empty lines
+and comments from '#' on are skipped.
 
-  --json   print one line: {\"file\", \"answers\", \"E\", \"mark\", \"fixes\"}
+  --json   print one line:
+           {\"file\", \"unit\", \"answers\", \"E\", \"mark\", \"fixes\"}
 ";
 
 /// What a call did: how many fixes it left and how many it measured.
@@ -41,10 +42,13 @@ struct Done {
     answer: Result<(u32, u32), Refusal>,
 }
 
-fn aging(fields: &[&str]) -> Result<Aging, String> {
+fn aging(unit: Unit, fields: &[&str]) -> Result<Aging, String> {
     match fields {
-        ["tolerance", number] => Ok(Aging::Tolerance(whole(number, TOLERANCES)?)),
-        ["days", number] => Ok(Aging::Days(whole(number, DAYS)?)),
+        ["tolerance", number] => {
+            let number = whole(number, Range::Tolerances(Some(unit)))?;
+            Ok(Aging::Tolerance(number))
+        }
+        ["days", number] => Ok(Aging::Days(whole(number, Range::Days)?)),
         _ => Err("a call is 'tolerance E' or 'days D'".into()),
     }
 }
@@ -60,71 +64,73 @@ fn run(arguments: &Arguments) -> Result<Status, Failure> {
     if name == "-" && calls == "-" {
         return Err(arguments.wrong("only one of the two can be the standard input"));
     }
-    let mut record = Trail::read(name)?.bytes;
+    let Trail {
+        bytes: mut record,
+        unit,
+        ..
+    } = Trail::read(name)?;
     let text = files::read_text(calls)?;
-    let calls = lines::entries(calls, &text, aging)?;
+    let calls = lines::entries(calls, &text, |fields| aging(unit, fields))?;
     let calls = calls.into_iter().map(|(_, aging)| aging);
     let done: Vec<Done> = calls.map(|aging| make(aging, &mut record)).collect();
-    // from the calls alone, as document 01's book has it
-    let greatest = done.iter().filter_map(|done| done.aging.applies()).max();
     let answer = match arguments.has("--json") {
-        true => answer(name, &done, greatest, &record).map(|json| format!("{json}\n")),
-        false => text_of(&done, greatest, &record),
+        true => answer(name, &done, &record).map(|json| format!("{json}\n")),
+        false => text_of(&done, unit, &record),
     };
     output::print(&answer.map_err(refused(name, &record))?)?;
     Ok(Status::Done)
 }
 
-fn text_of(done: &[Done], greatest: Option<u16>, record: &[u8]) -> Result<String, Refusal> {
+/// E, from the calls alone, as document 01's book has it.
+fn greatest(done: &[Done], unit: Unit) -> Option<u16> {
+    done.iter()
+        .filter_map(|done| done.aging.applies(unit))
+        .max()
+}
+
+fn text_of(done: &[Done], unit: Unit, record: &[u8]) -> Result<String, Refusal> {
     let mut text = String::new();
     for Done { aging, answer } in done {
-        let (name, number) = words(*aging);
-        // writing to a String never fails
-        let _ = match answer {
-            Ok((kept, measured)) => {
-                writeln!(text, "{name} {number}: kept {kept}, measured {measured}")
-            }
-            Err(refusal) => {
-                let k = refusal.number();
-                writeln!(text, "{name} {number}: refused {k}: {refusal}")
-            }
+        let (name, number) = named(*aging);
+        let what = match answer {
+            Ok((kept, measured)) => format!("kept {kept}, measured {measured}"),
+            Err(refusal) => refusal_text(*refusal, unit),
         };
+        // writing to a String never fails
+        let _ = writeln!(text, "{name} {number}: {what}");
     }
-    let greatest = greatest.map_or("none".into(), |e| e.to_string());
+    let greatest = greatest(done, unit).map_or("none".into(), |e| words::length(e, unit));
     let listing = trails::list(record)?;
     Ok(format!("{text}E {greatest}\n{listing}"))
 }
 
-fn words(aging: Aging) -> (&'static str, u16) {
+fn named(aging: Aging) -> (&'static str, u16) {
     match aging {
         Aging::Tolerance(tolerance) => ("tolerance", tolerance),
         Aging::Days(days) => ("days", days),
     }
 }
 
-fn answer(
-    name: &OsStr,
-    done: &[Done],
-    greatest: Option<u16>,
-    record: &[u8],
-) -> Result<Json, Refusal> {
+fn answer(name: &OsStr, done: &[Done], record: &[u8]) -> Result<Json, Refusal> {
+    let Head { unit, mark, .. } = trails::check(record)?;
     let one = |done: &Done| {
-        let (name, number) = words(done.aging);
+        let (name, number) = named(done.aging);
         let mut fields = vec![(name, Json::Whole(number.into()))];
         match done.answer {
             Ok((kept, measured)) => fields.extend([
                 ("count", Json::Whole(kept.into())),
                 ("measured", Json::Whole(measured.into())),
             ]),
-            Err(refusal) => fields.extend(refusal_fields(refusal)),
+            Err(refusal) => fields.extend(refusal_fields(refusal, unit)),
         }
         Json::Object(fields)
     };
     Ok(Json::Object(vec![
         ("file", Json::text(name)),
+        ("unit", Json::unit(unit)),
         ("answers", Json::List(done.iter().map(one).collect())),
-        ("E", Json::mark(greatest)),
-        ("mark", Json::mark(trails::check(record)?.mark)),
-        ("fixes", Json::fixes(&trails::fixes(record)?)),
+        ("E", Json::mark(greatest(done, unit))),
+        ("mark", Json::mark(mark)),
+        ("fixes", Json::fixes(&fixes(record)?)),
     ]))
 }

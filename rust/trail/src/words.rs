@@ -3,6 +3,8 @@
 use std::ffi::OsStr;
 use std::os::unix::ffi::OsStrExt;
 
+use trails::Unit;
+
 /// Whether a terminal obeys a character or hides it: controls, marks that turn a line's direction, separators of lines,
 /// and signs without width.
 pub fn steers(c: char) -> bool {
@@ -56,9 +58,14 @@ pub fn shown(name: &OsStr) -> String {
     }
 }
 
-/// A mark as people read it.
-pub fn mark(mark: Option<u16>) -> String {
-    mark.map_or("never".into(), |mark| mark.to_string())
+/// A mark in this unit as people read it.
+pub fn mark(mark: Option<u16>, unit: Unit) -> String {
+    mark.map_or("never".into(), |mark| length(mark, unit))
+}
+
+/// A length as people read it.
+pub fn length(length: u16, unit: Unit) -> String {
+    format!("{length} {}", unit.symbol())
 }
 
 #[cfg(test)]

@@ -10,6 +10,8 @@
 pub struct Head {
     /// 0 for none; else all that follows is 0.
     pub refusal: u32,
+    /// 1 for a record in centimetres, 2 for one in millimetres.
+    pub kind: u32,
     /// How many fixes the record has.
     pub count: u32,
     /// The greatest tolerance applied so far, or 65,535 for a trail that was never thinned.
@@ -24,11 +26,13 @@ pub struct Step {
     pub refusal: u32,
     /// 1 and the fix follows; or 0, and everything is: none is left.
     pub found: u32,
+    /// The record's, which says the unit of x and y.
+    pub kind: u32,
     /// Seconds.
     pub t: u32,
-    /// Centimetres.
+    /// In the record's unit.
     pub x: i32,
-    /// Centimetres.
+    /// In the record's unit.
     pub y: i32,
 }
 
@@ -52,7 +56,7 @@ pub struct Run {
     pub turned_away: usize,
 }
 
-/// Where a cart was: (x / denominator, y / denominator), in centimetres.
+/// Where a cart was: (x / denominator, y / denominator), in the record's unit.
 #[repr(C)]
 #[derive(Clone, Copy, Debug, Default, PartialEq, Eq)]
 pub struct Place {
@@ -60,13 +64,13 @@ pub struct Place {
     pub refusal: u32,
     /// At least 1.
     pub denominator: u32,
-    /// Centimetres times the denominator.
+    /// Times the denominator.
     pub x: i64,
-    /// Centimetres times the denominator.
+    /// Times the denominator.
     pub y: i64,
-    /// x in whole centimetres, halves away from 0.
+    /// x as a whole number, halves away from 0.
     pub whole_x: i32,
-    /// y in whole centimetres, halves away from 0.
+    /// y as a whole number, halves away from 0.
     pub whole_y: i32,
 }
 
@@ -79,12 +83,12 @@ pub struct Crossing {
     /// 1 for yes; 0 for no, and then all that follows is 0.
     pub crosses: u32,
     /// Seconds after the first fix, times the denominator.
-    pub numerator: u32,
-    /// From 1 to 32,000.
+    pub numerator: u64,
+    /// From 1 to 32,000, or to 320,000 of a record in millimetres.
     pub denominator: u32,
 }
 
-/// A window and a box, as the functions take them.
+/// A window and a box in the record's unit, as the functions take them.
 #[derive(Clone, Copy, Debug)]
 pub struct Question {
     /// The window's first second.
@@ -102,7 +106,7 @@ pub struct Question {
 }
 
 /// The most bytes that a listing has.
-pub const LONGEST_TEXT: usize = 118_805;
+pub const LONGEST_TEXT: usize = 126_997;
 
 extern "C" {
     fn trails_check(record: *const u8, lent: usize) -> Head;
@@ -112,17 +116,27 @@ extern "C" {
         lent: usize,
         t: *mut u32,
         t_count: usize,
-        x: *mut i16,
+        x: *mut i32,
         x_count: usize,
-        y: *mut i16,
+        y: *mut i32,
         y_count: usize,
     ) -> Answer;
     fn trails_write(
         t: *const u32,
         t_count: usize,
-        x: *const i16,
+        x: *const i32,
         x_count: usize,
-        y: *const i16,
+        y: *const i32,
+        y_count: usize,
+        output: *mut u8,
+        output_bytes: usize,
+    ) -> Answer;
+    fn trails_write_millimetres(
+        t: *const u32,
+        t_count: usize,
+        x: *const i32,
+        x_count: usize,
+        y: *const i32,
         y_count: usize,
         output: *mut u8,
         output_bytes: usize,
@@ -169,8 +183,9 @@ pub fn read(record: &[u8], position: usize) -> Step {
     unsafe { trails_read(record.as_ptr(), record.len(), position) }
 }
 
-/// All fixes, into three columns, of which each gets as many as it holds: checks 1 to 9. The value is the record's count.
-pub fn read_all(record: &[u8], t: &mut [u32], x: &mut [i16], y: &mut [i16]) -> Answer {
+/// All fixes, into three columns, of which each gets as many as it holds: checks 1 to 9. The value is the record's
+/// count, and x and y are in the record's unit.
+pub fn read_all(record: &[u8], t: &mut [u32], x: &mut [i32], y: &mut [i32]) -> Answer {
     // SAFETY: as in `check`; each column is lent alone, so that it may be written and overlaps nothing else.
     unsafe {
         trails_read_all(
@@ -186,11 +201,22 @@ pub fn read_all(record: &[u8], t: &mut [u32], x: &mut [i16], y: &mut [i16]) -> A
     }
 }
 
-/// The record of the fixes in three columns, as long as the shortest: checks 3, 7, 8, 9 and 15. The value is its length.
-pub fn write(t: &[u32], x: &[i16], y: &[i16], output: &mut [u8]) -> Answer {
+/// A writer of the header.
+type Writer = unsafe extern "C" fn(
+    *const u32,
+    usize,
+    *const i32,
+    usize,
+    *const i32,
+    usize,
+    *mut u8,
+    usize,
+) -> Answer;
+
+fn written(writer: Writer, t: &[u32], x: &[i32], y: &[i32], output: &mut [u8]) -> Answer {
     // SAFETY: as in `check`; the output is lent alone, so that it may be written and overlaps no column.
     unsafe {
-        trails_write(
+        writer(
             t.as_ptr(),
             t.len(),
             x.as_ptr(),
@@ -201,6 +227,17 @@ pub fn write(t: &[u32], x: &[i16], y: &[i16], output: &mut [u8]) -> Answer {
             output.len(),
         )
     }
+}
+
+/// The record, in centimetres, of the fixes in three columns, as long as the shortest: checks 3, 7, 8, 9 and 15. The
+/// value is its length.
+pub fn write(t: &[u32], x: &[i32], y: &[i32], output: &mut [u8]) -> Answer {
+    written(trails_write, t, x, y, output)
+}
+
+/// The record, in millimetres, of the fixes in three columns: as `write`.
+pub fn write_millimetres(t: &[u32], x: &[i32], y: &[i32], output: &mut [u8]) -> Answer {
+    written(trails_write_millimetres, t, x, y, output)
 }
 
 /// The listing's text, at the output's start: answers its length.

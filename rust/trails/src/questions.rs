@@ -13,22 +13,22 @@ pub struct Moment {
     pub thousandths: u16,
 }
 
-/// Where a cart was: (x / denominator, y / denominator), in centimetres.
+/// Where a cart was: (x / denominator, y / denominator), in the record's unit.
 #[derive(Clone, Copy, Debug, PartialEq, Eq, Hash)]
 pub struct Place {
     /// At least 1. The fractions aren't reduced.
     pub denominator: u32,
-    /// Centimetres times the denominator.
+    /// Times the denominator.
     pub x: i64,
-    /// Centimetres times the denominator.
+    /// Times the denominator.
     pub y: i64,
-    /// x in whole centimetres, halves away from 0.
+    /// x as a whole number, halves away from 0.
     pub whole_x: i32,
-    /// y in whole centimetres, halves away from 0.
+    /// y as a whole number, halves away from 0.
     pub whole_y: i32,
 }
 
-/// A box with its edges included, in centimetres.
+/// A box with its edges included, in the record's unit.
 #[derive(Clone, Copy, Debug, PartialEq, Eq, Hash)]
 pub struct Area {
     /// The least x.
@@ -52,20 +52,20 @@ pub struct Window {
 
 /// The earliest time at which a cart was in a box: numerator / denominator seconds after the first fix.
 ///
-/// The fraction isn't reduced: its denominator is 1, or the centimetres that the cart goes along an axis from one fix to
-/// the next. Two crossings are equal if their values are. A trail and its window moved by the same seconds have the same
-/// numerator and denominator.
+/// The fraction isn't reduced: its denominator is 1, or how far, in the record's unit, the cart goes along an axis from
+/// one fix to the next. Two crossings are equal if their values are. A trail and its window moved by the same seconds
+/// have the same numerator and denominator.
 #[derive(Clone, Copy, Debug)]
 pub struct Crossing {
     /// Seconds times the denominator.
-    pub numerator: u32,
-    /// From 1 to 32,000.
+    pub numerator: u64,
+    /// From 1 to 32,000, or to 320,000 of a record in millimetres.
     pub denominator: u32,
 }
 
 impl PartialEq for Crossing {
     fn eq(&self, other: &Crossing) -> bool {
-        let product = |a: u32, b: u32| u64::from(a) * u64::from(b);
+        let product = |a: u64, b: u32| u128::from(a) * u128::from(b);
         product(self.numerator, other.denominator) == product(other.numerator, self.denominator)
     }
 }

@@ -1,39 +1,39 @@
 use mathlib.Core.Path.{_≡_, refl, _∙_, ap}
 use mathlib.Core.Logic.{⊎-elim}
-use Prim.Native.Nat.{_+_, _*_, _-_, _≤_}
+use Prim.Native.Nat.{suc, _-_, _≤_}
 use native.Mathlib.Omega.{arith}
 use lib.ListN.{length}
 use lib.Seq.{length-sets}
 use borrow.Author.Needs.{needs}
-use Rattle.distance.specs.Fix.{fixOf}
-use Rattle.format.specs.Format.{trail, fix-bytes}
+use Rattle.format.specs.Kinds.{layout}
+use Rattle.format.specs.Format.{record-length, fix-at, fix-bytes}
+use Rattle.format.specs.Laws.Kinds.{is-kind, longer}
 use Rattle.aging.specs.Laws.Pack.{Packed, packed-none, packed-skip, packed-more}
 use Rattle.aging.proofs.pack.Statement.{statement}
 use Rattle.aging.proofs.pack.Tie as tie
 
 abbrev Inv-loop : tie.InvT-loop
-Inv-loop b₀ keep n w₀ i₀ b w i = (i ≤ n) × (length b ≡ length b₀) × Packed b₀ keep i b w
+Inv-loop b₀ kind keep n w₀ i₀ b w i = (i ≤ n) × (length b ≡ length b₀) × Packed (layout kind) b₀ keep i b w
 
 abbrev μ-loop : tie.MeasureT-loop
-μ-loop b₀ keep n w₀ i₀ b w i = n - i
+μ-loop b₀ kind keep n w₀ i₀ b w i = n - i
 
 loop-holds : tie.Need-loop-holds Inv-loop μ-loop
-loop-holds c = (omega arith, refl, packed-none _ _)
+loop-holds c = (omega arith, refl, packed-none _ _ _)
 
 shared-slice-read-if1 : tie.Need-shared-slice-read-if1 Inv-loop μ-loop
 shared-slice-read-if1 c = search needs
 
-fix-at-requires : tie.Need-fix-at-requires Inv-loop μ-loop
-fix-at-requires c κs = search needs
-
-mul-put-fix : tie.Need-mul-put-fix Inv-loop μ-loop
-mul-put-fix c = search needs
-
-add-put-fix : tie.Need-add-put-fix Inv-loop μ-loop
-add-put-fix c = search needs
-
-put-fix-requires : tie.Need-put-fix-requires Inv-loop μ-loop
-put-fix-requires c κs = search needs
+-- fix i has its bytes, and so has the place w of a kept one, which is no later
+move-fix-requires : tie.Need-move-fix-requires Inv-loop μ-loop
+move-fix-requires c κs =
+    let s = c .before .before .before .before .before .before .before in
+    let K = layout (s .args .kind) in
+    let at = c .before .before .before .before .loop in
+    let i = at .inv in
+    let here = longer K (suc (at .i)) (s .args .n) (omega arith) in
+    let there = longer K (suc (at .w)) (s .args .n) (omega (arith, i .2 .few)) in
+    (omega (arith, here, i .1, s .pre .2), omega (arith, there, i .1, s .pre .2))
 
 add-w : tie.Need-add-w Inv-loop μ-loop
 add-w c = search needs
@@ -46,15 +46,18 @@ loop-less c = search needs
 
 loop-again : tie.Need-loop-again Inv-loop μ-loop
 loop-again c =
-    let i = c .before .before .before .loop .inv in
+    let s = c .before .before .before .before .before .before in
+    let K = layout (s .args .kind) in
+    let at = c .before .before .before .loop in
+    let i = at .inv in
     ⊎-elim
     (λ w.
-    let e = w .7 ∙ w .4 .ensures in (
+    let e = w .5 ∙ w .2 .ensures in (
       omega arith,
-      ap length e ∙ length-sets (c .before .before .before .loop .b) (10 + 8 * c .before .before .before .loop .w) (fix-bytes trail (fixOf (w .2 .result))) ∙ i .1,
-      rw (w .8) (packed-more (i .2) (fixOf (w .2 .result)) (w .0 .taken) (w .2 .ensures) e),
+      ap length e ∙ length-sets (at .b) (record-length K (at .w)) (fix-bytes K (fix-at K (at .b) (at .i))) ∙ i .1,
+      rw (w .6) (packed-more K (is-kind (s .args .kind)) (i .2) (w .0 .taken) e),
     ))
-    (λ w. (omega arith, ap length (w .1) ∙ i .1, rw (w .1, w .2) (packed-skip (i .2) (w .0 .left))))
+    (λ w. (omega arith, ap length (w .1) ∙ i .1, rw (w .1, w .2) (packed-skip K (is-kind (s .args .kind)) (i .2) (w .0 .left))))
     (c .if1 .came)
 
 same-length : tie.Need-same-length Inv-loop μ-loop
@@ -73,10 +76,7 @@ pack-spec =
     μ-loop
     loop-holds
     shared-slice-read-if1
-    fix-at-requires
-    mul-put-fix
-    add-put-fix
-    put-fix-requires
+    move-fix-requires
     add-w
     add-i
     loop-less

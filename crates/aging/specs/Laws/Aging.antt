@@ -1,66 +1,70 @@
 -- Aging: what the marks, the packing and the head make of a record, the checks in order, and the table's rows. The step of every call: Step.antt.
-use mathlib.Core.Path.{_≡_, refl, sym, _∙_}
+use mathlib.Core.Path.{_≡_, refl, sym, _∙_, ap}
 use mathlib.Core.Bool.{Bool}
 use mathlib.Core.List.{List, [], _∷_}
 use mathlib.Core.Option.{Option, some, none}
-use Prim.Native.Nat.{ℕ, _+_, _*_, _-_, _<_, _≤_}
+use Prim.Native.Nat.{ℕ, _*_, _<_, _≤_}
+use native.Mathlib.Nat.{mul-le-mul}
 use native.Mathlib.Omega.{arith}
 use lib.ListN.{length}
 use lib.Seq.{sets}
 use borrow.Author.Tests.{lt-ltb, le-ltb, le-leb, lt-leb}
-use Rattle.format.specs.Format.{trail, mark-field, count-field, fixes, fix-at, each, header-bytes}
+use Rattle.format.specs.Kinds.{Kind}
+use Rattle.format.specs.Format.{kind-of, record-length, mark-field, count-field, fixes, fix-at, each, header-bytes}
+use Rattle.format.specs.Laws.Kinds.{IsKind, kind-of-is, longer}
 use Rattle.record.specs.Checks.{Check, high-tolerance, sentence, first, asked-of, reading, read-refusal, checks, IsAccepted}
 use Rattle.record.specs.Answers.{gives, turns-away}
 use Rattle.format.specs.Laws.Each.{length-each}
 use Rattle.record.specs.Laws.First.{stops, passes, none-first, some-first, none-front, reading-alone}
 use Rattle.thinning.specs.Thinning.{thinning}
 use Rattle.thinning.specs.Marks.{kept-by, Says}
-use Rattle.aging.specs.Aging.{new-mark, thinned-record, with-tolerance, age-refusal, age-answer, aged, last-row, days-give, days-answer, aged-by-days, count-at, record-at}
+use Rattle.aging.specs.Aging.{new-mark, thinned-record, with-tolerance, age-refusal, age-answer, aged, last-row, days-give, in-unit, days-apply, days-answer, aged-by-days, count-at, record-at}
 use Rattle.aging.specs.Laws.Pack.{Packed, packed-record}
 use Rattle.thinning.specs.Laws.KeptBy.{kept-by-length}
 
 -- ---- the record that the code leaves is the definition's
-pub record-is : (b : List ℕ) (e n : ℕ) {k : List Bool} {c w : ℕ} {p d : List ℕ} → n ≡ count-field b → 10 + 8 * n ≤ length b → Says (thinning e (each (fix-at trail b) 0 n)) k (each (fix-at trail b) 0 n) c
-    → Packed b k n p w → d ≡ sets p 0 (header-bytes trail (new-mark (mark-field b) e) w) → (c ≡ (thinning e (fixes trail b)) .count) × (d ≡ thinned-record b e)
+pub record-is : (b : List ℕ) (e n : ℕ) {K : Kind} {k : List Bool} {c w : ℕ} {p d : List ℕ} → K ≡ kind-of b → n ≡ count-field b → record-length K n ≤ length b → Says (thinning e (each (fix-at K b) 0 n)) k (each (fix-at K b) 0 n) c
+    → Packed K b k n p w → d ≡ sets p 0 (header-bytes K (new-mark (mark-field b) e) w) → (c ≡ (thinning e (fixes b)) .count) × (d ≡ thinned-record b e)
 unfolding thinned-record
-record-is b e n {k} {d} is whole t q s =
-    let l = kept-by k 0 (each (fix-at trail b) 0 n) in
-    let few : length l ≤ n = rw (length-each (fix-at trail b) 0 n) at (kept-by-length k 0 (each (fix-at trail b) 0 n)) in
-    rw (← is) (sym (t .says-count), rw (t .says-kept) (packed-record b d (new-mark (mark-field b) e) l (omega arith) (s ∙ rw (q .stored, q .many) refl)))
+record-is b e n {K} {k} {d} kind is whole t q s =
+    let l = kept-by k 0 (each (fix-at K b) 0 n) in
+    let few : length l ≤ n = rw (length-each (fix-at K b) 0 n) at (kept-by-length k 0 (each (fix-at K b) 0 n)) in
+    let fit : record-length K (length l) ≤ length b = omega (arith, longer K (length l) n few) in
+    rw (← kind, ← is) (sym (t .says-count), rw (t .says-kept) (packed-record K (rw kind (kind-of-is b)) b d (new-mark (mark-field b) e) l fit (s ∙ rw (q .stored, q .many) refl)))
 
 -- ---- the checks: the reader's, and then 10
 abbrev says : List ℕ → (e : ℕ) → Check → Bool
-says b e = sentence trail (asked-of trail b (with-tolerance e))
+says b e = sentence (kind-of b) (asked-of b (with-tolerance e))
 
 module _ (b : List ℕ) (e : ℕ) where
   -- what the reader turns away aging turns away by the same number
-  pub age-reader : (k : ℕ) → read-refusal trail b ≡ some k → age-refusal b e ≡ some k
-  age-reader k h = some-first (says b e) (checks reading) (high-tolerance ∷ []) k (reading-alone trail b (with-tolerance e) ∙ h)
+  pub age-reader : (k : ℕ) → read-refusal b ≡ some k → age-refusal b e ≡ some k
+  age-reader k h = some-first (says b e) (checks reading) (high-tolerance ∷ []) k (reading-alone b (with-tolerance e) ∙ h)
 
-  pub age-10 : read-refusal trail b ≡ none → 32000 < e → age-refusal b e ≡ some 10
+  pub age-10 : read-refusal b ≡ none → kind-of b .top < e → age-refusal b e ≡ some 10
   unfolding sentence
-  age-10 h g = none-first (says b e) (checks reading) (high-tolerance ∷ []) (reading-alone trail b (with-tolerance e) ∙ h) ∙ stops (says b e) high-tolerance [] (lt-ltb 32000 e g)
+  age-10 h g = none-first (says b e) (checks reading) (high-tolerance ∷ []) (reading-alone b (with-tolerance e) ∙ h) ∙ stops (says b e) high-tolerance [] (lt-ltb (kind-of b .top) e g)
 
-  pub age-none : read-refusal trail b ≡ none → e ≤ 32000 → age-refusal b e ≡ none
+  pub age-none : read-refusal b ≡ none → e ≤ kind-of b .top → age-refusal b e ≡ none
   unfolding sentence first
-  age-none h g = none-first (says b e) (checks reading) (high-tolerance ∷ []) (reading-alone trail b (with-tolerance e) ∙ h) ∙ passes (says b e) high-tolerance [] (le-ltb 32000 e g)
+  age-none h g = none-first (says b e) (checks reading) (high-tolerance ∷ []) (reading-alone b (with-tolerance e) ∙ h) ∙ passes (says b e) high-tolerance [] (le-ltb (kind-of b .top) e g)
 
 -- ---- the answer and the buffer, case by case
 pub age-refused : (b : List ℕ) (e k : ℕ) → age-refusal b e ≡ some k → (turns-away k ≡ age-answer b e) × (b ≡ aged b e)
 age-refused b e k h = (rw h refl, rw h refl)
 
-pub age-done : (b : List ℕ) (e : ℕ) → age-refusal b e ≡ none → (gives ((thinning e (fixes trail b)) .count) ≡ age-answer b e) × (thinned-record b e ≡ aged b e)
+pub age-done : (b : List ℕ) (e : ℕ) → age-refusal b e ≡ none → (gives ((thinning e (fixes b)) .count) ≡ age-answer b e) × (thinned-record b e ≡ aged b e)
 age-done b e h = (rw h refl, rw h refl)
 
-pub days-refused : (b : List ℕ) (d k : ℕ) → read-refusal trail b ≡ some k → (turns-away k ≡ days-answer b d) × (b ≡ aged-by-days b d)
+pub days-refused : (b : List ℕ) (d k : ℕ) → read-refusal b ≡ some k → (turns-away k ≡ days-answer b d) × (b ≡ aged-by-days b d)
 days-refused b d k h = (rw h refl, rw h refl)
 
-pub days-done : (b : List ℕ) (d : ℕ) (t : Option ℕ) → days-give d ≡ t → read-refusal trail b ≡ none → (gives (count-at t b) ≡ days-answer b d) × (record-at t b ≡ aged-by-days b d)
+pub days-done : (b : List ℕ) (d : ℕ) (t : Option ℕ) → days-apply (kind-of b) d ≡ t → read-refusal b ≡ none → (gives (count-at t b) ≡ days-answer b d) × (record-at t b ≡ aged-by-days b d)
 days-done b d t e h = (rw (h, e) refl, rw (h, e) refl)
 
 -- ---- what passes is accepted
-pub age-accepted : (b : List ℕ) (e : ℕ) → age-refusal b e ≡ none → IsAccepted trail b
-age-accepted b e h = record { accepted = sym (reading-alone trail b (with-tolerance e)) ∙ none-front (says b e) (checks reading) (high-tolerance ∷ []) h }
+pub age-accepted : (b : List ℕ) (e : ℕ) → age-refusal b e ≡ none → IsAccepted b
+age-accepted b e h = record { accepted = sym (reading-alone b (with-tolerance e)) ∙ none-front (says b e) (checks reading) (high-tolerance ∷ []) h }
 
 -- ---- the table, from its last row to its first
 module _ (d : ℕ) where
@@ -83,3 +87,14 @@ module _ (d : ℕ) where
   pub from-0 : d < 90 → d < 30 → d < 7 → d < 2 → none ≡ days-give d
   unfolding last-row
   from-0 a b c h = rw (lt-leb 90 d a, lt-leb 30 d b, lt-leb 7 d c, lt-leb 2 d h) refl
+
+-- ---- a row in a kind's unit fits 32 bits, and the lesser of it and the kind's greatest is taken
+module _ (K : Kind) (is : IsKind K) (row : ℕ) where
+  pub unit-fits : row < 65536 → K .per-centimetre * row < 4294967296
+  unit-fits h = let p : row ≤ 65535 = omega arith in omega (arith, mul-le-mul (is .few-units) p)
+
+  pub unit-below : K .per-centimetre * row < K .top → some (K .per-centimetre * row) ≡ in-unit K (some row)
+  unit-below h = ap some (omega arith)
+
+  pub unit-above : K .top ≤ K .per-centimetre * row → some (K .top) ≡ in-unit K (some row)
+  unit-above h = ap some (omega arith)

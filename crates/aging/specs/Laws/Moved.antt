@@ -3,7 +3,7 @@ use mathlib.Core.Path.{_≡_, refl, sym, _∙_, ap}
 use mathlib.Core.Bool.{Bool}
 use mathlib.Core.List.{List, [], _∷_, map}
 use mathlib.Core.Option.{Option, some, none}
-use Prim.Native.Nat.{ℕ, suc, _+_, _*_, _≤_}
+use Prim.Native.Nat.{ℕ, suc, _≤_}
 use lib.IntN.{ℤ, pos, negsuc}
 use lib.ListN.{length, length-map}
 use Rattle.distance.specs.Fix.{Fix}
@@ -11,7 +11,9 @@ use Rattle.distance.specs.Distance.{deviation, allowance}
 use Rattle.distance.specs.Clock.{moved-fix}
 use Rattle.distance.specs.Laws.All.{all-none, all-more}
 use Rattle.distance.specs.Laws.Clock.{deviation-later, allowance-later, fixes-earlier-again}
-use Rattle.format.specs.Format.{trail, count-field, fixes, fix-at}
+use Rattle.format.specs.Format.{kind-of, record-length, count-field, fixes, fix-at}
+use Rattle.format.specs.Kinds.{Kind}
+use Rattle.format.specs.Laws.Kinds.{same-kind-of, kind-code}
 use Rattle.format.specs.Laws.Each.{length-each}
 use Rattle.format.specs.Laws.RoundTrip.{AreBytes}
 use Rattle.format.specs.Laws.Changed.{SameHead, same-head-swap, changed-head, changed-bytes}
@@ -24,9 +26,9 @@ use Rattle.record.specs.Laws.Changed.{head-same}
 use Rattle.record.specs.Laws.Moved.{Later, accepted-later, moved-fixes, moved-later, moved-earlier, later-refusal}
 use Rattle.thinning.specs.Thinning.{thinning, Thinned}
 use Rattle.thinning.specs.Marks.{kept-by}
-use Rattle.thinning.specs.Laws.KeptBy.{kept-by-mapped}
+use Rattle.thinning.specs.Laws.KeptBy.{same-positions}
 use Rattle.thinning.specs.Laws.Mapped.{mapped, thin-mapped}
-use Rattle.aging.specs.Aging.{Call, by-tolerance, by-days, left-by, answered, with-tolerance, age-refusal, days-refusal, days-give, count-at, record-at, new-mark, thinned-record, applies}
+use Rattle.aging.specs.Aging.{Call, by-tolerance, by-days, left-by, answered, with-tolerance, age-refusal, days-refusal, days-apply, count-at, record-at, new-mark, thinned-record, applies}
 use Rattle.aging.specs.Laws.Aging.{age-accepted}
 use Rattle.aging.specs.Laws.Step.{thins, step, left-refused, left-accepted, applies-low}
 
@@ -37,42 +39,46 @@ thinning-later k e l = thin-mapped (moved-fix (pos k)) deviation allowance (devi
 
 -- ---- a record c that is b with every fix k seconds later
 module _ (k : ℕ) (b c : List ℕ) (l : Later k b c) where
-  read-later : read-refusal trail c ≡ read-refusal trail b
+  same-kind : kind-of c ≡ kind-of b
+  same-kind = same-kind-of b c (l .same-head .same-kind)
+
+  read-later : read-refusal c ≡ read-refusal b
   read-later = later-refusal k b c l nothing nothing [] (λ h. all-none)
 
   age-refusal-later : (e : ℕ) → age-refusal c e ≡ age-refusal b e
   unfolding sentence
-  age-refusal-later e = later-refusal k b c l (with-tolerance e) (with-tolerance e) (high-tolerance ∷ []) (λ h. all-more refl all-none)
+  age-refusal-later e = later-refusal k b c l (with-tolerance e) (with-tolerance e) (high-tolerance ∷ []) (λ h. all-more (rw same-kind refl) all-none)
 
   -- the count of an accepted one
-  thinned-later : (e : ℕ) → IsAccepted trail b → thinning e (fixes trail c) ≡ mapped (moved-fix (pos k)) (thinning e (fixes trail b))
-  thinned-later e a = ap (thinning e) (accepted-later l a) ∙ thinning-later k e (fixes trail b)
+  thinned-later : (e : ℕ) → IsAccepted b → thinning e (fixes c) ≡ mapped (moved-fix (pos k)) (thinning e (fixes b))
+  thinned-later e a = ap (thinning e) (accepted-later l a) ∙ thinning-later k e (fixes b)
 
-  count-later : (t : Option ℕ) → IsAccepted trail b → count-at t c ≡ count-at t b
+  count-later : (t : Option ℕ) → IsAccepted b → count-at t c ≡ count-at t b
   count-later none a = refl
   count-later (some e) a = ap (λ (m : Thinned Fix). m .count) (thinned-later e a)
 
   answered-later : (q : Call) → answered c q ≡ answered b q
   answered-later (by-tolerance e) = rw (age-refusal-later e) (answer-same (age-refusal b e) (λ x. count-later (some e) (age-accepted b e x)))
-  answered-later (by-days d) = rw read-later (answer-same (days-refusal b) (λ x. count-later (days-give d) (record { accepted = x })))
+  answered-later (by-days d) = rw (read-later, same-kind) (answer-same (days-refusal b) (λ x. count-later (days-apply (kind-of b) d) (record { accepted = x })))
 
   -- ---- what it leaves is as much later
   module _ (bytes-b : AreBytes b) (bytes-c : AreBytes c) where
-    record-later : (e : ℕ) → IsAccepted trail b → e ≤ 32000 → Later k (thinned-record b e) (thinned-record c e)
+    record-later : (e : ℕ) → IsAccepted b → e ≤ kind-of b .top → Later k (thinned-record b e) (thinned-record c e)
     record-later e a low =
         let f = moved-fix (pos k) in
         let p = thins b e bytes-b a low in
-        let q = thins c e bytes-c (record { accepted = read-later ∙ a .accepted }) low in
+        let q = thins c e bytes-c (record { accepted = read-later ∙ a .accepted }) (rw same-kind low) in
+        let kind : kind-of (thinned-record c e) ≡ kind-of (thinned-record b e) = q .same-kind ∙ same-kind ∙ sym (p .same-kind) in
         let g = accepted-good (thinned-record b e) (p .still-accepted) in
         let h = accepted-good (thinned-record c e) (q .still-accepted) in
-        let kept : fixes trail (thinned-record c e) ≡ map f (fixes trail (thinned-record b e)) = q .fixes-are ∙ ap (λ (m : Thinned Fix). m .kept) (thinned-later e a) ∙ ap (map f) (sym (p .fixes-are)) in
+        let kept : fixes (thinned-record c e) ≡ map f (fixes (thinned-record b e)) = q .fixes-are ∙ ap (λ (m : Thinned Fix). m .kept) (thinned-later e a) ∙ ap (map f) (sym (p .fixes-are)) in
         let many : count-field (thinned-record c e) ≡ count-field (thinned-record b e) =
-        sym (length-each (fix-at trail (thinned-record c e)) 0 (count-field (thinned-record c e))) ∙ ap length kept ∙ length-map (fixes trail (thinned-record b e)) f ∙ length-each (fix-at trail (thinned-record b e)) 0 (count-field (thinned-record b e)) in
+        sym (length-each (fix-at (kind-of (thinned-record c e)) (thinned-record c e)) 0 (count-field (thinned-record c e))) ∙ ap length kept ∙ length-map (fixes (thinned-record b e)) f ∙ length-each (fix-at (kind-of (thinned-record b e)) (thinned-record b e)) 0 (count-field (thinned-record b e)) in
         record {
           same-head = record {
             same-size = q .same-size ∙ l .same-head .same-size ∙ sym (p .same-size);
-            same-length = h .head .length-is ∙ ap (λ (n : ℕ). 10 + 8 * n) many ∙ sym (g .head .length-is);
-            same-kind = h .head .kind-is ∙ sym (g .head .kind-is);
+            same-length = h .head .length-is ∙ ap (λ (J : Kind). record-length J (count-field (thinned-record c e))) kind ∙ ap (record-length (kind-of (thinned-record b e))) many ∙ sym (g .head .length-is);
+            same-kind = kind-code (thinned-record c e) (h .head .known) ∙ ap (λ (J : Kind). J .code) kind ∙ sym (kind-code (thinned-record b e) (g .head .known));
             same-mark = q .mark-is ∙ ap (λ (m : ℕ). new-mark m e) (l .same-head .same-mark) ∙ sym (p .mark-is);
             same-count = many;
           };
@@ -80,15 +86,15 @@ module _ (k : ℕ) (b c : List ℕ) (l : Later k b c) where
         }
 
     pub left-later : (q : Call) → Later k (left-by b q) (left-by c q)
-    left-later q = go (read-refusal trail b) refl
+    left-later q = go (read-refusal b) refl
       where
-        at-tolerance : (t : Option ℕ) → applies q ≡ t → IsAccepted trail b → Later k (record-at t b) (record-at t c)
+        at-tolerance : (t : Option ℕ) → applies (kind-of b) q ≡ t → IsAccepted b → Later k (record-at t b) (record-at t c)
         at-tolerance none y a = l
-        at-tolerance (some e) y a = record-later e a (applies-low q e y)
+        at-tolerance (some e) y a = record-later e a (applies-low (kind-of b) q e y)
 
-        go : (r : Option ℕ) → read-refusal trail b ≡ r → Later k (left-by b q) (left-by c q)
+        go : (r : Option ℕ) → read-refusal b ≡ r → Later k (left-by b q) (left-by c q)
         go (some n) x = rw (left-refused b n q x, left-refused c n q (read-later ∙ x)) l
-        go none x = rw (step b q (record { accepted = x }), step c q (record { accepted = read-later ∙ x })) (at-tolerance (applies q) refl (record { accepted = x }))
+        go none x = rw (step b q (record { accepted = x }), step c q (record { accepted = read-later ∙ x }), same-kind) (at-tolerance (applies (kind-of b) q) refl (record { accepted = x }))
 
 -- ---- THE LAW. Of all lent bytes and every call, and for every s, later or earlier, that keeps each time of the record in 32 bits, unless one of checks 1 to 6 turns
 -- the bytes away. c is b moved.
@@ -98,39 +104,39 @@ pub record AgedAlike (s : ℤ) (b c : List ℕ) (q : Call) : Type 0 where
   -- the mark, the count of fixes and the length
   pub head-left : SameHead (left-by b q) (left-by c q)
   -- the fixes that are kept, moved
-  pub fixes-left : head-refusal trail b ≡ none → fixes trail (left-by c q) ≡ map (moved-fix s) (fixes trail (left-by b q))
+  pub fixes-left : head-refusal b ≡ none → fixes (left-by c q) ≡ map (moved-fix s) (fixes (left-by b q))
   -- and where they stood: marks that tell it of b tell it of c
-  pub same-positions : head-refusal trail b ≡ none → (marks : List Bool) → fixes trail (left-by b q) ≡ kept-by marks 0 (fixes trail b) → fixes trail (left-by c q) ≡ kept-by marks 0 (fixes trail c)
+  pub same-positions : head-refusal b ≡ none → (marks : List Bool) → fixes (left-by b q) ≡ kept-by marks 0 (fixes b) → fixes (left-by c q) ≡ kept-by marks 0 (fixes c)
 
 -- what is left has a head that passes, if that of the record does
-head-passes : (b : List ℕ) (q : Call) → AreBytes b → head-refusal trail b ≡ none → head-refusal trail (left-by b q) ≡ none
-head-passes b q bytes h = go (read-refusal trail b) refl
+head-passes : (b : List ℕ) (q : Call) → AreBytes b → head-refusal b ≡ none → head-refusal (left-by b q) ≡ none
+head-passes b q bytes h = go (read-refusal b) refl
   where
-    go : (r : Option ℕ) → read-refusal trail b ≡ r → head-refusal trail (left-by b q) ≡ none
+    go : (r : Option ℕ) → read-refusal b ≡ r → head-refusal (left-by b q) ≡ none
     go (some k) x = rw (left-refused b k q x) h
-    go none x = head-none (left-by b q) (left-accepted b q bytes (record { accepted = x }) .0 .accepted)
+    go none x = head-none (left-by b q) (left-accepted b q bytes (record { accepted = x }) .accepted-still .accepted)
 
 -- marks of positions go with the fixes
-with-positions : (s : ℤ) (b : List ℕ) (q : Call) → AreBytes b → Movable trail s b → answered (moved-record trail s b) q ≡ answered b q → SameHead (left-by b q) (left-by (moved-record trail s b) q)
-    → (head-refusal trail b ≡ none → fixes trail (left-by (moved-record trail s b) q) ≡ map (moved-fix s) (fixes trail (left-by b q))) → AgedAlike s b (moved-record trail s b) q
+with-positions : (s : ℤ) (b : List ℕ) (q : Call) → AreBytes b → Movable s b → answered (moved-record s b) q ≡ answered b q → SameHead (left-by b q) (left-by (moved-record s b) q)
+    → (head-refusal b ≡ none → fixes (left-by (moved-record s b) q) ≡ map (moved-fix s) (fixes (left-by b q))) → AgedAlike s b (moved-record s b) q
 with-positions s b q bytes stay answer head left = record {
   same-answer = answer;
   head-left = head;
   fixes-left = left;
-  same-positions = (λ h marks e. left h ∙ ap (map (moved-fix s)) e ∙ sym (kept-by-mapped marks (moved-fix s) 0 (fixes trail b)) ∙ ap (kept-by marks 0) (sym (moved-fixes s b bytes stay h)));
+  same-positions = (λ h marks e. same-positions marks (moved-fix s) (fixes b) (moved-fixes s b bytes stay h) (left h) e);
 }
 
-pub aged-moved : (s : ℤ) (b : List ℕ) → AreBytes b → Movable trail s b → (q : Call) → AgedAlike s b (moved-record trail s b) q
+pub aged-moved : (s : ℤ) (b : List ℕ) → AreBytes b → Movable s b → (q : Call) → AgedAlike s b (moved-record s b) q
 aged-moved (pos k) b bytes stay q =
-    let c = moved-record trail (pos k) b in
+    let c = moved-record (pos k) b in
     let l = moved-later k b bytes stay in
     let r = left-later k b c l bytes (changed-bytes (moved-fix (pos k)) b bytes) q in
     with-positions (pos k) b q bytes stay (answered-later k b c l q) (r .same-head) (λ h. r .later-fixes (head-passes b q bytes h))
 aged-moved (negsuc k) b bytes stay q =
-    let c = moved-record trail (negsuc k) b in
+    let c = moved-record (negsuc k) b in
     let f = moved-fix (negsuc k) in
     let l = moved-earlier k b bytes stay in
     let bytes-c = changed-bytes f b bytes in
     let r = left-later (suc k) c b l bytes-c bytes q in
     with-positions (negsuc k) b q bytes stay (sym (answered-later (suc k) c b l q)) (same-head-swap (r .same-head))
-    (λ h. let z = r .later-fixes (head-passes c q bytes-c (head-same b c (changed-head f b) nothing nothing ∙ h)) in sym (ap (map f) z ∙ fixes-earlier-again k (fixes trail (left-by c q))))
+    (λ h. let z = r .later-fixes (head-passes c q bytes-c (head-same b c (changed-head f b) nothing nothing ∙ h)) in sym (ap (map f) z ∙ fixes-earlier-again k (fixes (left-by c q))))

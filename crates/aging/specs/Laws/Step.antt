@@ -1,28 +1,30 @@
 -- ONE STEP: a call refuses and leaves the bytes, or it thins at the tolerance that it applies; by days is by tolerance at the table's. And what a
 -- thinning leaves is an accepted record again, of the kept fixes, with the mark moved and the rest of the buffer as before.
-use mathlib.Core.Path.{_≡_, refl, sym, _∙_, ap}
+use mathlib.Core.Path.{_≡_, refl, sym, subst, _∙_, ap}
 use mathlib.Core.Logic.{_↔_}
-use mathlib.Core.Bool.{Bool, true, false, cond}
-use mathlib.Core.List.{List, [], _∷_, _++_}
+use mathlib.Core.Bool.{Bool, false, cond}
+use mathlib.Core.List.{List, _++_}
 use mathlib.Core.Option.{Option, some, none}
-use Prim.Native.Nat.{ℕ, _+_, _*_, _<_, _≤_}
+use Prim.Native.Nat.{ℕ, _*_, _<_, _≤_, min}
 use native.Mathlib.Omega.{arith}
-use lib.Dec.{leb}
 use lib.ListN.{length, drop, length-append, length-drop}
 use lib.Seq.{drop-at}
 use borrow.Author.Tests.{eq-eqb, ne-eqb, le-leb, lt-leb}
 use Rattle.distance.specs.Fix.{Fix}
-use Rattle.distance.specs.Laws.All.{All, all-none, all-more, all-append, all-drop}
+use Rattle.distance.specs.Laws.All.{All, all-append, all-drop}
 use Rattle.distance.specs.Integers.Tests.{Test, holds, fails, test}
-use Rattle.format.specs.Format.{trail, mark-field, count-field, fixes, fix-at, record-bytes}
+use Rattle.format.specs.declared.Kind.{Kind as CodeKind}
+use Rattle.format.specs.Kinds.{Kind, layout}
+use Rattle.format.specs.Format.{kind-of, record-length, mark-field, count-field, fixes, fix-at, record-bytes}
+use Rattle.format.specs.Laws.Kinds.{of-code, is-kind, kind-of-is, is-coded, longer}
 use Rattle.record.specs.Checks.{IsAccepted, read-refusal, too-long, of-ends}
 use Rattle.record.specs.Answers.{Answer, gives, turns-away}
 use Rattle.format.specs.Laws.Each.{length-each}
 use Rattle.format.specs.Laws.Layout.{length-record}
-use Rattle.format.specs.Laws.RoundTrip.{AreBytes, read-record, bytes-in-range, record-are-bytes}
+use Rattle.format.specs.Laws.RoundTrip.{AreBytes, InRange, read-record, bytes-in-range, record-are-bytes}
 use Rattle.record.specs.Laws.Accepted.{GoodMark, mark-applied, mark-never-applied, GoodFixes, accepted-good, accept, places-good, good-places, times-good, good-times}
 use Rattle.thinning.specs.Thinning.{thinned}
-use Rattle.aging.specs.Aging.{Call, by-tolerance, by-days, left-by, answered, age-answer, aged, aged-by-days, days-give, new-mark, thinned-record, Row, day-table, last-row, record-at, applies}
+use Rattle.aging.specs.Aging.{Call, by-tolerance, by-days, left-by, answered, age-answer, aged, aged-by-days, days-give, in-unit, days-apply, new-mark, thinned-record, record-at, applies}
 use Rattle.thinning.specs.Laws.Trail.{kept-all, kept-rising, ends-stay, SameEnds, no-fixes, same-ends, no-more}
 use Rattle.aging.specs.Laws.Aging.{age-reader, age-none, age-10, age-refused, age-done, days-refused, days-done}
 use Rattle.record.specs.Laws.First.{some-none}
@@ -33,9 +35,9 @@ unfolding of-ends
 kept-short no-fixes h = h
 kept-short (same-ends e) h = rw e h
 
-pub kept-good : (e : ℕ) (l : List Fix) → GoodFixes l → GoodFixes (thinned e l)
-kept-good e l g = record {
-  inside = good-places 16000 (kept-all e l (places-good 16000 l (g .inside)));
+pub kept-good : {limit : ℕ} (e : ℕ) (l : List Fix) → GoodFixes limit l → GoodFixes limit (thinned e l)
+kept-good {limit} e l g = record {
+  inside = good-places limit (kept-all e l (places-good limit l (g .inside)));
   ordered = good-times (kept-rising e l (times-good l (g .ordered)));
   short = kept-short (ends-stay e l) (g .short);
 }
@@ -45,88 +47,93 @@ kept-some no-fixes h = h
 kept-some (same-ends e) h = omega arith
 
 -- ---- the mark
-mark-kept : (m e : ℕ) → GoodMark m → e ≤ 32000 → GoodMark (new-mark m e)
+mark-kept : (top m e : ℕ) → top < 65535 → GoodMark top m → e ≤ top → GoodMark top (new-mark m e)
 unfolding new-mark
-mark-kept m e (mark-applied h) g = rw (ne-eqb m 65535 (λ z. omega arith)) (mark-applied (omega arith))
-mark-kept m e (mark-never-applied h) g = rw (eq-eqb m 65535 h) (mark-applied g)
+mark-kept top m e low (mark-applied h) g = rw (ne-eqb m 65535 (λ z. omega arith)) (mark-applied (omega arith))
+mark-kept top m e low (mark-never-applied h) g = rw (eq-eqb m 65535 h) (mark-applied g)
 
 -- ---- WHAT A THINNING LEAVES
 pub record ThinnedTo (b : List ℕ) (e : ℕ) (c : List ℕ) : Type 0 where
-  pub still-accepted : IsAccepted trail c
-  pub fixes-are : fixes trail c ≡ thinned e (fixes trail b)
+  pub still-accepted : IsAccepted c
+  pub same-kind : kind-of c ≡ kind-of b
+  pub fixes-are : fixes c ≡ thinned e (fixes b)
   pub mark-is : mark-field c ≡ new-mark (mark-field b) e
   pub same-size : length c ≡ length b
   pub bytes-still : AreBytes c
   -- "Bytes from the new length on are as before"
-  pub rest-is : drop (10 + 8 * length (thinned e (fixes trail b))) c ≡ drop (10 + 8 * length (thinned e (fixes trail b))) b
+  pub rest-is : drop (record-length (kind-of b) (length (thinned e (fixes b)))) c ≡ drop (record-length (kind-of b) (length (thinned e (fixes b)))) b
 
-pub thins : (b : List ℕ) (e : ℕ) → AreBytes b → IsAccepted trail b → e ≤ 32000 → ThinnedTo b e (thinned-record b e)
+-- of the code's kinds first
+thins-as : (κ : CodeKind) (b : List ℕ) (e : ℕ) → kind-of b ≡ layout κ → AreBytes b → IsAccepted b → e ≤ kind-of b .top → ThinnedTo b e (thinned-record b e)
 unfolding thinned-record
-thins b e bytes a h =
+thins-as κ b e kind bytes a h =
+    let K = layout κ in
+    let is = is-kind κ in
     let g = accepted-good b a in
-    let l = thinned e (fixes trail b) in
-    let n : length (fixes trail b) ≡ count-field b = length-each (fix-at trail b) 0 (count-field b) in
-    let fewer = no-more e (fixes trail b) in
+    let l = thinned e (fixes b) in
+    let n : length (fixes b) ≡ count-field b = length-each (fix-at (kind-of b) b) 0 (count-field b) in
+    let fewer = no-more e (fixes b) in
     let few : length l ≤ 4096 = omega (arith, g .head .few-fixes) in
-    let fit : 10 + 8 * length l ≤ length b = omega (arith, g .head .whole) in
+    let fit : record-length K (length l) ≤ length b = omega (arith, rw kind at (g .head .whole), longer K (length l) (count-field b) (omega arith)) in
     let m = new-mark (mark-field b) e in
-    let good-mark = mark-kept (mark-field b) e (g .mark) h in
-    let rest = drop (10 + 8 * length l) b in
-    let ranges = kept-all e (fixes trail b) (bytes-in-range b 0 (count-field b) bytes) in
-    let r = read-record m l rest (mark-small good-mark) few ranges in
-    let size : length (record-bytes trail m l ++ rest) ≡ length b = length-append (record-bytes trail m l) rest ∙ rw (length-record m l, length-drop (10 + 8 * length l) b) (omega arith) in
-    record {
-      still-accepted = accept m l _ r good-mark (kept-some (ends-stay e (fixes trail b)) (omega (arith, g .head .some-fix))) few (rw size fit) (kept-good e (fixes trail b) (g .trail-good));
+    let good-mark : GoodMark (K .top) m = mark-kept (K .top) (mark-field b) e (is .marked) (rw kind at (g .mark)) (rw kind at h) in
+    let rest = drop (record-length K (length l)) b in
+    let ranges : All (InRange K) l = subst (λ (J : Kind). All (InRange J) l) kind (kept-all e (fixes b) (bytes-in-range (kind-of b) (kind-of-is b) b bytes 0 (count-field b))) in
+    let r = read-record κ m l rest (mark-small (is .marked) good-mark) few ranges in
+    let size : length (record-bytes K m l ++ rest) ≡ length b = length-append (record-bytes K m l) rest ∙ rw (length-record K is m l, length-drop (record-length K (length l)) b) (omega arith) in
+    let c = record-bytes K m l ++ rest in
+    let same : c ≡ thinned-record b e = subst (λ (J : Kind). record-bytes J m l ++ drop (record-length J (length l)) b ≡ thinned-record b e) kind refl in
+    subst (ThinnedTo b e) same (record {
+      still-accepted = accept c r (is-coded κ (K .code) refl) good-mark (kept-some (ends-stay e (fixes b)) (omega (arith, g .head .some-fix))) few (rw size fit) (kept-good e (fixes b) (subst (λ (J : Kind). GoodFixes (J .limit) (fixes b)) kind (g .trail-good)));
+      same-kind = r .kind-reads ∙ sym kind;
       fixes-are = r .fixes-read;
       mark-is = r .mark-reads;
       same-size = size;
-      bytes-still = all-append (record-are-bytes m l) (all-drop (10 + 8 * length l) bytes);
-      rest-is = drop-at (record-bytes trail m l) rest (10 + 8 * length l) (length-record m l);
-    }
+      bytes-still = all-append (record-are-bytes K m l) (all-drop (record-length K (length l)) bytes);
+      rest-is = subst (λ (J : Kind). drop (record-length J (length l)) c ≡ drop (record-length J (length l)) b) (sym kind) (drop-at (record-bytes K m l) rest (record-length K (length l)) (length-record K is m l));
+    })
   where
-    mark-small : {m : ℕ} → GoodMark m → m < 65536
-    mark-small (mark-applied h) = omega arith
-    mark-small (mark-never-applied h) = omega arith
+    mark-small : {top m : ℕ} → top < 65535 → GoodMark top m → m < 65536
+    mark-small low (mark-applied h) = omega arith
+    mark-small low (mark-never-applied h) = omega arith
 
--- ---- the table's tolerances are low
-rows-low : (so-far : Option ℕ) (rows : List Row) (d e : ℕ) → ((t : ℕ) → so-far ≡ some t → t ≤ 32000) → All (λ (r : Row). r .row-tolerance ≤ 32000) rows → last-row so-far rows d ≡ some e → e ≤ 32000
-unfolding last-row
-rows-low so-far [] d e f all-none h = f e h
-rows-low so-far (r ∷ rows) d e f (all-more g t) h = rows-low (cond (leb (r .day) d) (some (r .row-tolerance)) so-far) rows d e (go (leb (r .day) d)) t h
+pub thins : (b : List ℕ) (e : ℕ) → AreBytes b → IsAccepted b → e ≤ kind-of b .top → ThinnedTo b e (thinned-record b e)
+thins b e = let k = of-code b in thins-as (k .code-kind) b e (k .is)
+
+-- ---- no tolerance that days apply is above the limit
+days-low : (K : Kind) (d e : ℕ) → days-apply K d ≡ some e → e ≤ K .top
+days-low K d e h = go (days-give d) h
   where
-    go : (b : Bool) (t : ℕ) → cond b (some (r .row-tolerance)) so-far ≡ some t → t ≤ 32000
-    go true t e = let z : r .row-tolerance ≡ t = cc in omega arith
-    go false t e = f t e
-
-table-low : (d e : ℕ) → days-give d ≡ some e → e ≤ 32000
-table-low d e h = rows-low none day-table d e (λ t z. absurd (some-none (sym z))) (all-more (omega arith) (all-more (omega arith) (all-more (omega arith) (all-more (omega arith) all-none)))) h
+    go : (t : Option ℕ) → in-unit K t ≡ some e → e ≤ K .top
+    go none h = absurd (some-none (sym h))
+    go (some row) h = let z : min (K .top) (K .per-centimetre * row) ≡ e = cc in omega arith
 
 -- ---- THE STEP of every call on an accepted record: it leaves the bytes, or it thins at the tolerance that it applies.
-pub step : (b : List ℕ) (c : Call) → IsAccepted trail b → left-by b c ≡ record-at (applies c) b
+pub step : (b : List ℕ) (c : Call) → IsAccepted b → left-by b c ≡ record-at (applies (kind-of b) c) b
 unfolding applies
-step b (by-tolerance e) a = go (test e 32000)
+step b (by-tolerance e) a = go (test e (kind-of b .top))
   where
-    go : {t : Bool} → Test e 32000 t → aged b e ≡ record-at (cond t (some e) none) b
+    go : {t : Bool} → Test e (kind-of b .top) t → aged b e ≡ record-at (cond t (some e) none) b
     go (holds h) = sym (age-done b e (age-none b e (a .accepted) h) .1)
     go (fails h) = sym (age-refused b e 10 (age-10 b e (a .accepted) h) .1)
-step b (by-days d) a = sym (days-done b d (days-give d) refl (a .accepted) .1)
+step b (by-days d) a = sym (days-done b d (days-apply (kind-of b) d) refl (a .accepted) .1)
 
 -- Bytes that the reader turns away every call leaves as they are.
-pub left-refused : (b : List ℕ) (k : ℕ) (c : Call) → read-refusal trail b ≡ some k → left-by b c ≡ b
+pub left-refused : (b : List ℕ) (k : ℕ) (c : Call) → read-refusal b ≡ some k → left-by b c ≡ b
 left-refused b k (by-tolerance e) h = sym (age-refused b e k (age-reader b e k h) .1)
 left-refused b k (by-days d) h = sym (days-refused b d k h .1)
 
 -- By days is by tolerance at the table's.
-pub days-as-tolerance : (b : List ℕ) (d e : ℕ) → IsAccepted trail b → days-give d ≡ some e → (aged-by-days b d ≡ aged b e) × (answered b (by-days d) ≡ answered b (by-tolerance e))
+pub days-as-tolerance : (b : List ℕ) (d e : ℕ) → IsAccepted b → days-apply (kind-of b) d ≡ some e → (aged-by-days b d ≡ aged b e) × (answered b (by-days d) ≡ answered b (by-tolerance e))
 days-as-tolerance b d e a h =
     let one = days-done b d (some e) h (a .accepted) in
-    let two = age-done b e (age-none b e (a .accepted) (table-low d e h)) in
+    let two = age-done b e (age-none b e (a .accepted) (days-low (kind-of b) d e h)) in
     (sym (one .1) ∙ two .1, sym (one .0) ∙ two .0)
 
--- ---- WHICH CALLS ARE TURNED AWAY on an accepted record: agings at a tolerance above 32,000, by number 10. An aging by days never is.
-abbrev pub TooHigh : Call → Type 0
-TooHigh (by-tolerance e) = 32000 < e
-TooHigh (by-days d) = ⊥
+-- ---- WHICH CALLS ARE TURNED AWAY on an accepted record: agings at a tolerance above its kind's limit, by number 10. An aging by days never is.
+abbrev pub TooHigh : Kind → Call → Type 0
+TooHigh K (by-tolerance e) = K .top < e
+TooHigh K (by-days d) = ⊥
 
 gives-no-refusal : {n k : ℕ} → gives n ≡ turns-away k → ⊥
 gives-no-refusal e = let z : _≡_ {A = ℕ} 0 1 = cc in omega arith
@@ -134,49 +141,54 @@ gives-no-refusal e = let z : _≡_ {A = ℕ} 0 1 = cc in omega arith
 same-number : {n k : ℕ} → _≡_ {A = Answer ℕ} (turns-away n) (turns-away k) → n ≡ k
 same-number e = cc
 
-pub turned-away : (b : List ℕ) (c : Call) (k : ℕ) → IsAccepted trail b → answered b c ≡ turns-away k ↔ ((k ≡ 10) × TooHigh c)
-turned-away b (by-tolerance e) k a = (go (test e 32000), λ (z, h). sym (by-10 h) ∙ ap turns-away (sym z))
+pub turned-away : (b : List ℕ) (c : Call) (k : ℕ) → IsAccepted b → answered b c ≡ turns-away k ↔ ((k ≡ 10) × TooHigh (kind-of b) c)
+turned-away b (by-tolerance e) k a = (go (test e (kind-of b .top)), λ (z, h). sym (by-10 h) ∙ ap turns-away (sym z))
   where
-    by-10 : 32000 < e → turns-away 10 ≡ age-answer b e
+    by-10 : kind-of b .top < e → turns-away 10 ≡ age-answer b e
     by-10 h = age-refused b e 10 (age-10 b e (a .accepted) h) .0
 
-    go : {t : Bool} → Test e 32000 t → age-answer b e ≡ turns-away k → (k ≡ 10) × (32000 < e)
+    go : {t : Bool} → Test e (kind-of b .top) t → age-answer b e ≡ turns-away k → (k ≡ 10) × (kind-of b .top < e)
     go (holds h) z = absurd (gives-no-refusal (age-done b e (age-none b e (a .accepted) h) .0 ∙ z))
     go (fails h) z = (sym (same-number (by-10 h ∙ z)), h)
-turned-away b (by-days d) k a = (λ z. absurd (gives-no-refusal (days-done b d (days-give d) refl (a .accepted) .0 ∙ z)), λ (z, h). absurd h)
+turned-away b (by-days d) k a = (λ z. absurd (gives-no-refusal (days-done b d (days-apply (kind-of b) d) refl (a .accepted) .0 ∙ z)), λ (z, h). absurd h)
 
 -- These apply no tolerance, and every other aging by tolerance applies its own.
-pub too-high-applies : (c : Call) → TooHigh c → applies c ≡ none
+pub too-high-applies : (K : Kind) (c : Call) → TooHigh K c → applies K c ≡ none
 unfolding applies
-too-high-applies (by-tolerance e) h = rw (lt-leb e 32000 h) refl
-too-high-applies (by-days d) h = absurd h
+too-high-applies K (by-tolerance e) h = rw (lt-leb e (K .top) h) refl
+too-high-applies K (by-days d) h = absurd h
 
-pub others-apply : (e : ℕ) → e ≤ 32000 → applies (by-tolerance e) ≡ some e
+pub others-apply : (K : Kind) (e : ℕ) → e ≤ K .top → applies K (by-tolerance e) ≡ some e
 unfolding applies
-others-apply e h = rw (le-leb e 32000 h) refl
+others-apply K e h = rw (le-leb e (K .top) h) refl
 
--- A tolerance that is mark-applied is within the limit.
-pub applies-low : (c : Call) (e : ℕ) → applies c ≡ some e → e ≤ 32000
+-- A tolerance that is applied is within the limit.
+pub applies-low : (K : Kind) (c : Call) (e : ℕ) → applies K c ≡ some e → e ≤ K .top
 unfolding applies
-applies-low (by-tolerance t) e h = go (test t 32000) h
+applies-low K (by-tolerance t) e h = go (test t (K .top)) h
   where
-    go : {b : Bool} → Test t 32000 b → cond b (some t) none ≡ some e → e ≤ 32000
+    go : {b : Bool} → Test t (K .top) b → cond b (some t) none ≡ some e → e ≤ K .top
     go (holds g) h = let z : t ≡ e = cc in omega arith
     go (fails g) h = absurd (some-none (sym h))
-applies-low (by-days d) e h = table-low d e h
+applies-low K (by-days d) e h = days-low K d e h
 
--- What a call leaves of an accepted record is one again, and bytes.
-pub left-accepted : (b : List ℕ) (c : Call) → AreBytes b → IsAccepted trail b → IsAccepted trail (left-by b c) × AreBytes (left-by b c)
-left-accepted b c bytes a = rw (step b c a) (go (applies c) refl)
+-- What a call leaves of an accepted record is one again, of the same kind, and bytes.
+pub record StillAccepted (b c : List ℕ) : Type 0 where
+  pub accepted-still : IsAccepted c
+  pub kind-still : kind-of c ≡ kind-of b
+  pub are-bytes : AreBytes c
+
+pub left-accepted : (b : List ℕ) (c : Call) → AreBytes b → IsAccepted b → StillAccepted b (left-by b c)
+left-accepted b c bytes a = rw (step b c a) (go (applies (kind-of b) c) refl)
   where
-    go : (t : Option ℕ) → applies c ≡ t → IsAccepted trail (record-at t b) × AreBytes (record-at t b)
-    go none h = (a, bytes)
-    go (some e) h = let t = thins b e bytes a (applies-low c e h) in (t .still-accepted, t .bytes-still)
+    go : (t : Option ℕ) → applies (kind-of b) c ≡ t → StillAccepted b (record-at t b)
+    go none h = record { accepted-still = a; kind-still = refl; are-bytes = bytes }
+    go (some e) h = let t = thins b e bytes a (applies-low (kind-of b) c e h) in record { accepted-still = t .still-accepted; kind-still = t .same-kind; are-bytes = t .bytes-still }
 
 -- and of any bytes it leaves bytes
 pub left-bytes : (b : List ℕ) (c : Call) → AreBytes b → AreBytes (left-by b c)
-left-bytes b c bytes = go (read-refusal trail b) refl
+left-bytes b c bytes = go (read-refusal b) refl
   where
-    go : (r : Option ℕ) → read-refusal trail b ≡ r → AreBytes (left-by b c)
+    go : (r : Option ℕ) → read-refusal b ≡ r → AreBytes (left-by b c)
     go (some k) h = rw (left-refused b k c h) bytes
-    go none h = left-accepted b c bytes (record { accepted = h }) .1
+    go none h = left-accepted b c bytes (record { accepted = h }) .are-bytes

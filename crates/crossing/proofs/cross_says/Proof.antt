@@ -1,11 +1,17 @@
 use mathlib.Core.Path.{sym, _∙_, ap}
 use denote.Ref.{now}
 use Rattle.record.specs.Answers.{refused}
+use Rattle.record.specs.Checks.{IsAccepted}
+use Rattle.record.specs.Laws.Head.{accepted-head}
 use Rattle.crossing.specs.Answers.{boxOf}
 use Rattle.crossing.specs.Laws.Checking.{cross-refused}
 use borrow.Author.Needs.{needs}
 use Rattle.crossing.proofs.cross_says.Statement.{statement}
 use Rattle.crossing.proofs.cross_says.Tie as tie
+
+-- the bytes have passed the reader's checks
+passed : (c : tie.After-enum-told) → IsAccepted (now (c .before .before .before .before .args .b))
+passed c = record { accepted = sym (c .before .before .check .ensures) ∙ ap refused (c .enum-told .given .1) }
 
 check-requires : tie.Need-check-requires
 check-requires c κs = search needs
@@ -16,8 +22,11 @@ enum-known-v c = search needs
 enum-told : tie.Need-enum-told
 enum-told c = search needs
 
+kind-at-requires : tie.Need-kind-at-requires
+kind-at-requires c κs = accepted-head _ (passed c .accepted) .ten
+
 question-says-requires : tie.Need-question-says-requires
-question-says-requires c κs = record { accepted = sym (c .before .before .check .ensures) ∙ ap refused (c .enum-told .given .1) }
+question-says-requires c κs = (passed (c .before), c .kind-at .ensures)
 
 returns : tie.Need-returns
 returns c = sym (cross-refused (now (c .before .before .before .before .before .args .b)) _ _ (boxOf (c .before .before .before .before .before .args .e)) _ (sym (c .before .before .before .check .ensures) ∙ ap refused (c .before .v .given .1)))
@@ -28,4 +37,4 @@ returns-2 c = search needs
 pub cross-says-spec : {M : Type 1} → statement M
 cross-says-spec =
     tie.close
-    (tie.spec check-requires enum-known-v enum-told question-says-requires returns returns-2)
+    (tie.spec check-requires enum-known-v enum-told kind-at-requires question-says-requires returns returns-2)

@@ -1,30 +1,30 @@
 use mathlib.Core.Path.{sym, _∙_, ap}
 use Prim.Native.Nat.{_-_}
-use native.Mathlib.Omega.{arith}
 use Rattle.legs.specs.Answers.{meeting}
-use Rattle.record.specs.Laws.Trail.{lent}
-use Rattle.crossing.specs.Laws.Search.{Seek, first-reach, seek-start, seek-reach, seek-rises, seek-found, seek-next, seek-end}
+use Rattle.format.specs.Kinds.{layout}
+use Rattle.record.specs.Laws.Trail.{lent, reaches}
+use Rattle.crossing.specs.Laws.Search.{Seek, first-reach, seek-start, seek-reach, seek-leg, seek-found, seek-next, seek-last, seek-end}
 use borrow.Author.Needs.{needs}
 use Rattle.crossing.proofs.first_crossing.Statement.{statement}
 use Rattle.crossing.proofs.first_crossing.Tie as tie
 
 abbrev Inv-loop : tie.InvT-loop
-Inv-loop b n f opens closes a₀ k₀ a k = Seek b n f (opens .0) (closes .0) a k
+Inv-loop b kind n f opens closes a₀ k₀ a k = Seek (layout kind) b n f (opens .0) (closes .0) a k
 
 abbrev μ-loop : tie.MeasureT-loop
-μ-loop b n f opens closes a₀ k₀ a k = n - k
+μ-loop b kind n f opens closes a₀ k₀ a k = n - k
 
 raised-at-requires : tie.Need-raised-at-requires Inv-loop μ-loop
-raised-at-requires c κs = let l = lent (c .before .pre .is-accepted) (c .before .pre .count) in (omega (arith, l .whole, l .some), first-reach (c .before .pre))
+raised-at-requires c κs = let r = c .before .pre in let l = lent (r .is-accepted) (r .kind) (r .count) in (reaches 0 l (l .some), first-reach r)
 
 loop-holds : tie.Need-loop-holds Inv-loop μ-loop
-loop-holds c = seek-start _ _ _ (c .before .before .pre) (c .raised-at .ensures)
+loop-holds c = seek-start _ _ (c .before .before .pre) (c .raised-at .ensures)
 
 raised-at-requires-2 : tie.Need-raised-at-requires-2 Inv-loop μ-loop
-raised-at-requires-2 c κs = let l = lent (c .before .before .before .before .pre .is-accepted) (c .before .before .before .before .pre .count) in (omega (arith, l .whole, c .loop-test .taken), seek-reach (c .before .loop .inv) (c .loop-test .taken))
+raised-at-requires-2 c κs = let r = c .before .before .before .before .pre in (reaches _ (lent (r .is-accepted) (r .kind) (r .count)) (c .loop-test .taken), seek-reach (c .before .loop .inv) (c .loop-test .taken))
 
 leg-first-requires : tie.Need-leg-first-requires Inv-loop μ-loop
-leg-first-requires c κs = seek-rises (c .before .before .loop .inv) (c .before .loop-test .taken) (c .raised-at2 .ensures)
+leg-first-requires c κs = seek-leg (c .before .before .loop .inv) (c .before .loop-test .taken) (c .raised-at2 .ensures)
 
 enum-known-r : tie.Need-enum-known-r Inv-loop μ-loop
 enum-known-r c = search needs
@@ -45,7 +45,7 @@ loop-again : tie.Need-loop-again Inv-loop μ-loop
 loop-again c = seek-next (c .before .before .before .before .before .loop .inv) (c .before .before .before .before .loop-test .taken) (c .before .before .before .raised-at2 .ensures) (sym (c .before .before .leg-first .ensures) ∙ ap meeting (c .enum-told .given .1))
 
 leg-first-requires-2 : tie.Need-leg-first-requires-2 Inv-loop μ-loop
-leg-first-requires-2 c κs = search needs
+leg-first-requires-2 c κs = seek-last (c .before .loop .inv)
 
 returns-2 : tie.Need-returns-2 Inv-loop μ-loop
 returns-2 c = c .leg-first2 .ensures ∙ sym (seek-end (c .before .before .loop .inv) (c .before .loop-test .left))

@@ -8,18 +8,19 @@ use Prim.Native.Nat.{ℕ, _+_, _*_, _-_, _≤_, _<_}
 use native.Mathlib.Nat.{mul-le-mul-right, mul-le-mul-left}
 use native.Mathlib.Omega.{arith}
 use borrow.Author.Tests.{le-leb}
-use Rattle.distance.specs.Fix.{Fix, After, rising, last-of}
+use Rattle.distance.specs.Fix.{Fix, After, widest, rising, last-of}
 use Rattle.distance.specs.Place.{Time, own, leg, place-from, place}
 use Rattle.distance.specs.Box.{Box, In}
 use Rattle.distance.specs.Laws.Place.{leg-proper, own-proper, place-proper, leg-last, place-fix}
 use Rattle.distance.specs.Laws.Box.{in-same}
 use Rattle.distance.specs.Integers.Tests.{Test, holds, fails, test}
 use Rattle.legs.specs.declared.Fraction.{Fraction}
+use Rattle.legs.specs.declared.Frame.{Frame}
 use Rattle.legs.specs.Legs.{leg-first, raised, framed}
 use Rattle.crossing.specs.Crossing.{or-else, first-from, first-crossing, Crosses, Means}
-use Rattle.legs.specs.Laws.Times.{Said, through, said-as}
-use Rattle.record.specs.Laws.Trail.{CheckedTrail, next, leg-of, first-bounded}
-use Rattle.legs.specs.Laws.Legs.{Open, LegIn, OwnIn, BoxInLimit, absolute, leg-means, alone-means}
+use Rattle.legs.specs.Laws.Times.{Said, IfSome, through, said-as}
+use Rattle.record.specs.Laws.Trail.{CheckedTrail, checked-widest, next, leg-of, first-bounded}
+use Rattle.legs.specs.Laws.Legs.{Open, LegIn, OwnIn, BoxInWidest, absolute, leg-means, alone-means, leg-over}
 use Rattle.distance.specs.Laws.Near.{same-swap}
 
 -- ---- from fix a on: a time of the window, in seconds after z, at which the trail is in the box
@@ -77,7 +78,6 @@ module _ (z : ℕ) (box : Box) (w v : ℕ) (a b : Fix) (l : List Fix) (base : z 
   pub said-or : (o r : Option Fraction) → Said (LegIn z box w v a b) o → Said (Inside z box w v b l) r → Said (Inside z box w v a (b ∷ l)) (or-else o r)
   said-or (some f) r x y = record {
     some-den = x .some-den;
-    small = x .small;
     here = leg-inside _ (x .here);
     earliest = (λ u h. ⊎-elim (x .earliest u)
         (λ k. through (f .num) (f .den) (b .t - z) 1 (u .p) (u .q) (omega arith) (omega (arith, x .here .to)) (omega (arith, k .from))) (leg-or-rest u h));
@@ -85,7 +85,6 @@ module _ (z : ℕ) (box : Box) (w v : ℕ) (a b : Fix) (l : List Fix) (base : z 
   said-or none none x y = (λ u h. ⊎-elim (x u) (y u) (leg-or-rest u h))
   said-or none (some f) x y = record {
     some-den = y .some-den;
-    small = y .small;
     here = rest-inside _ (y .here);
     earliest = (λ u h. ⊎-elim (λ k. absurd (x u k)) (y .earliest u) (leg-or-rest u h));
   }
@@ -100,16 +99,34 @@ unfolding place-from
 inside-own z box w v a u h = record { from = h .from; window = h .window; inside = h .inside }
 
 -- ---- the whole trail from a on, in a window that ends with it
-from-means : (z : ℕ) (box : Box) (w v : ℕ) (a : Fix) (l : List Fix) → z ≤ a .t → CheckedTrail a l → v ≤ (last-of a l) .t - z → BoxInLimit box
-    → Said (Inside z box w v a l) (first-from 16000 z a l (framed 16000 box) w v)
+from-means : (z : ℕ) (box : Box) (w v : ℕ) (a : Fix) (l : List Fix) → z ≤ a .t → CheckedTrail widest a l → v ≤ (last-of a l) .t - z → BoxInWidest box
+    → Said (Inside z box w v a l) (first-from z a l (framed box) w v)
 unfolding first-from last-of
 from-means z box w v a [] base c ends nb =
-    said-as (leg-first (raised 16000 z a) (raised 16000 z a) (framed 16000 box) w v) (own-inside z box w v a) (inside-own z box w v a) (alone-means z box w v a ends (first-bounded a [] c) nb)
+    said-as (leg-first (raised z a) (raised z a) (framed box) w v) (own-inside z box w v a) (inside-own z box w v a) (alone-means z box w v a ends (first-bounded a [] c) nb)
 from-means z box w v a (b ∷ l) base c ends nb =
     let g = leg-of a b l c in
     let k = next a b l c in
     let r = g .rises in
-    said-or z box w v a b l base r (k .after) (leg-first (raised 16000 z a) (raised 16000 z b) (framed 16000 box) w v) (first-from 16000 z b l (framed 16000 box) w v) (leg-means z box w v a b base r (g .bounded-a) (g .bounded-b) nb) (from-means z box w v b l (omega arith) k ends nb)
+    said-or z box w v a b l base r (k .after) (leg-first (raised z a) (raised z b) (framed box) w v) (first-from z b l (framed box) w v) (leg-means z box w v a b base r (g .bounded-a) (g .bounded-b) nb) (from-means z box w v b l (omega arith) k ends nb)
+
+-- ---- THE DENOMINATOR of the trail's answer is that of a leg's
+or-over : (P : Fraction → Type 0) (o r : Option Fraction) → IfSome P o → IfSome P r → IfSome P (or-else o r)
+or-over P (some f) r p q = p
+or-over P none r p q = q
+
+from-over : (limit z : ℕ) (a : Fix) (l : List Fix) (f : Frame) (w v : ℕ) → 1 ≤ limit → CheckedTrail widest a l → CheckedTrail limit a l
+    → IfSome (λ (g : Fraction). g .den ≤ 2 * limit) (first-from z a l f w v)
+unfolding first-from
+from-over limit z a [] f w v one k c =
+    let p = first-bounded a [] k in
+    let q = first-bounded a [] c in
+    leg-over limit z a a f w v one p p q q
+from-over limit z a (b ∷ l) f w v one k c =
+    let g = leg-of a b l k in
+    let h = leg-of a b l c in
+    or-over (λ (g : Fraction). g .den ≤ 2 * limit) (leg-first (raised z a) (raised z b) f w v) (first-from z b l f w v)
+    (leg-over limit z a b f w v one (g .bounded-a) (g .bounded-b) (h .bounded-a) (h .bounded-b)) (from-over limit z b l f w v one (next a b l k) (next a b l c))
 
 -- ---- on the fixes' own clock
 -- the window is of the trail's times
@@ -159,11 +176,11 @@ module _ (box : Box) (s e : ℕ) (a : Fix) (l : List Fix) (q : GoodWindow s e (a
         inside = rw (back u h) (h .inside);
       }
 
-  means : (o : Option Fraction) → Said (Inside z box (s - z) (e - z) a l) o → Means (a ∷ l) box s e o
-  means none x = (λ u h. x (relative u) (crosses-in u h))
-  means (some f) x = record {
+  means : (limit : ℕ) (o : Option Fraction) → IfSome (λ (g : Fraction). g .den ≤ 2 * limit) o → Said (Inside z box (s - z) (e - z) a l) o → Means limit (a ∷ l) box s e o
+  means limit none d x = (λ u h. x (relative u) (crosses-in u h))
+  means limit (some f) d x = record {
     some-denominator = x .some-den;
-    small-denominator = x .small;
+    small-denominator = d;
     crosses = crosses-out (record { p = f .num; q = f .den; whole = x .some-den }) (x .here);
     earliest = (λ u h. let k = x .earliest (relative u) (crosses-in u h) in omega (arith, k, mul-sub-le u h (f .den)));
   }
@@ -171,7 +188,13 @@ module _ (box : Box) (s e : ℕ) (a : Fix) (l : List Fix) (q : GoodWindow s e (a
       mul-sub-le : (u : Time) → Crosses (a ∷ l) box s e u → (d : ℕ) → (u .p - u .q * z) * d + u .q * z * d ≡ u .p * d
       mul-sub-le u h d = let k : u .p - u .q * z + u .q * z ≡ u .p = omega (arith, not-before u h) in omega (arith, ap (λ (p : ℕ). p * d) k)
 
--- THE LAW
-pub crossing-means : (a : Fix) (l : List Fix) (box : Box) (s e : ℕ) → CheckedTrail a l → BoxInLimit box → GoodWindow s e (a .t) ((last-of a l) .t) → Means (a ∷ l) box s e (first-crossing 16000 (a ∷ l) box s e)
+-- THE LAW, of places within any limit that is not above the widest
+pub crossing-means : (limit : ℕ) (a : Fix) (l : List Fix) (box : Box) (s e : ℕ) → 1 ≤ limit → limit ≤ widest → CheckedTrail limit a l → BoxInWidest box → GoodWindow s e (a .t) ((last-of a l) .t)
+    → Means limit (a ∷ l) box s e (first-crossing (a ∷ l) box s e)
 unfolding first-crossing
-crossing-means a l box s e c nb q = means box s e a l q (first-from 16000 (a .t) a l (framed 16000 box) (s - a .t) (e - a .t)) (from-means (a .t) box (s - a .t) (e - a .t) a l (omega arith) c (omega (arith, q .to)) nb)
+crossing-means limit a l box s e one inside c nb q =
+    let k = checked-widest inside c in
+    let w = s - a .t in
+    let v = e - a .t in
+    means box s e a l q limit (first-from (a .t) a l (framed box) w v) (from-over limit (a .t) a l (framed box) w v one k c)
+    (from-means (a .t) box w v a l (omega arith) k (omega (arith, q .to)) nb)

@@ -8,17 +8,18 @@ use native.Mathlib.Omega.{arith}
 use lib.Dec.{ltb}
 use lib.Signed.{ltZ}
 use Rattle.distance.specs.Box.{Box}
-use Rattle.format.specs.Format.{trail, fix-at, count-field}
+use Rattle.format.specs.Kinds.{Kind}
+use Rattle.format.specs.Format.{kind-of, fix-at, count-field}
 use Rattle.record.specs.Checks.{IsAccepted, outside}
 use Rattle.legs.specs.declared.Fraction.{Fraction}
 use Rattle.legs.specs.declared.Offset.{Offset}
 use Rattle.legs.specs.declared.Raised.{Raised}
 use Rattle.legs.specs.declared.Frame.{Frame}
-use Rattle.legs.specs.Laws.Ranges.{Reach}
+use Rattle.legs.specs.Laws.Ranges.{Reach, Low, LowFrame, LegFits, low-raised}
 use Rattle.legs.specs.Legs.{leg-first, raised}
 use Rattle.crossing.specs.Crossing.{or-else, first-from}
-use Rattle.record.specs.Laws.Trail.{CheckedTrail, from, from-next, from-end, next, leg-of, first-bounded, last-after, accepted-checked, lent, first-second}
-use Rattle.distance.specs.Fix.{last-of}
+use Rattle.record.specs.Laws.Trail.{CheckedTrail, from, from-next, from-end, next, leg-of, first-bounded, last-after, accepted-widest, lent}
+use Rattle.distance.specs.Fix.{Fix, widest, last-of}
 
 -- ---- the checks of a window and of a box, of the trail's first and last time
 abbrev pub time-outside : (s first last : ℕ) → Bool
@@ -27,69 +28,81 @@ time-outside s first last = ltb s first || ltb last s
 abbrev pub window-outside : (s e first last : ℕ) → Bool
 window-outside s e first last = ltb e s || (time-outside s first last || time-outside e first last)
 
-abbrev pub edges-outside : Box → Bool
-edges-outside b = outside 16000 (b .x-low) || (outside 16000 (b .x-high) || (outside 16000 (b .y-low) || (outside 16000 (b .y-high) || (ltZ (b .x-high) (b .x-low) || ltZ (b .y-high) (b .y-low)))))
+abbrev pub edges-outside : (limit : ℕ) → Box → Bool
+edges-outside limit b = outside limit (b .x-low) || (outside limit (b .x-high) || (outside limit (b .y-low) || (outside limit (b .y-high) || (ltZ (b .x-high) (b .x-low) || ltZ (b .y-high) (b .y-low)))))
 
--- the record is accepted and has n fixes
-pub record Seekable (b : List ℕ) (n : ℕ) : Type 0 where
-  pub is-accepted : IsAccepted trail b
+-- the record is accepted, its kind is K and it has n fixes; and no number of the box is above the highest
+pub record Seekable (K : Kind) (b : List ℕ) (n : ℕ) (f : Frame) : Type 0 where
+  pub is-accepted : IsAccepted b
+  pub kind : K ≡ kind-of b
   pub count : n ≡ count-field b
+  pub frame : LowFrame f
 
 -- what is left of the search: a is the fix before position k
-pub record Seek (b : List ℕ) (n : ℕ) (f : Frame) (w v : ℕ) (a : Raised) (k : ℕ) : Type 0 where
+pub record Seek (K : Kind) (b : List ℕ) (n : ℕ) (f : Frame) (w v : ℕ) (a : Raised) (k : ℕ) : Type 0 where
   pub some : 1 ≤ k
   pub few : k ≤ n
-  pub here : a ≡ raised 16000 (first-second b) (fix-at trail b (k - 1))
-  pub checked : CheckedTrail (fix-at trail b (k - 1)) (from b k n)
-  pub base : first-second b ≤ (fix-at trail b (k - 1)) .t
-  pub last : (last-of (fix-at trail b (k - 1)) (from b k n)) .t ≤ first-second b + 65535
-  pub left : first-from 16000 (first-second b) (fix-at trail b 0) (from b 1 n) f w v ≡ first-from 16000 (first-second b) (fix-at trail b (k - 1)) (from b k n) f w v
+  pub frame : LowFrame f
+  pub here : a ≡ raised ((fix-at K b 0) .t) (fix-at K b (k - 1))
+  pub checked : CheckedTrail widest (fix-at K b (k - 1)) (from (fix-at K b) k n)
+  pub base : (fix-at K b 0) .t ≤ (fix-at K b (k - 1)) .t
+  pub last : (last-of (fix-at K b (k - 1)) (from (fix-at K b) k n)) .t ≤ (fix-at K b 0) .t + 65535
+  pub left : first-from ((fix-at K b 0) .t) (fix-at K b 0) (from (fix-at K b) 1 n) f w v ≡ first-from ((fix-at K b 0) .t) (fix-at K b (k - 1)) (from (fix-at K b) k n) f w v
 
-checked-n : {b : List ℕ} {n : ℕ} → Seekable b n → CheckedTrail (fix-at trail b 0) (from b 1 n)
-checked-n {b} r = rw (r .count) (accepted-checked b (r .is-accepted))
+checked-n : {K : Kind} {b : List ℕ} {n : ℕ} {f : Frame} → Seekable K b n f → CheckedTrail widest (fix-at K b 0) (from (fix-at K b) 1 n)
+checked-n {b} r = rw (r .kind, r .count) (accepted-widest b (r .is-accepted))
 
-pub first-reach : {b : List ℕ} {n : ℕ} → Seekable b n → Reach (first-second b) (fix-at trail b 0)
-first-reach {b} {n} r = record { from = omega arith; to = omega arith; bounded = first-bounded (fix-at trail b 0) (from b 1 n) (checked-n r) }
+pub first-reach : {K : Kind} {b : List ℕ} {n : ℕ} {f : Frame} → Seekable K b n f → Reach ((fix-at K b 0) .t) (fix-at K b 0)
+first-reach {K} {b} {n} r = record { from = omega arith; to = omega arith; bounded = first-bounded (fix-at K b 0) (from (fix-at K b) 1 n) (checked-n r) }
 
-pub seek-start : {b : List ℕ} {n : ℕ} {a : Raised} (f : Frame) (w v : ℕ) → Seekable b n → a ≡ raised 16000 (first-second b) (fix-at trail b 0) → Seek b n f w v a 1
-seek-start f w v r e =
+pub seek-start : {K : Kind} {b : List ℕ} {n : ℕ} {f : Frame} {a : Raised} (w v : ℕ) → Seekable K b n f → a ≡ raised ((fix-at K b 0) .t) (fix-at K b 0) → Seek K b n f w v a 1
+seek-start w v r e =
     let c = checked-n r in
-    record { some = omega arith; few = lent (r .is-accepted) (r .count) .some; here = e; checked = c; base = omega arith; last = c .short; left = refl }
+    record { some = omega arith; few = lent (r .is-accepted) (r .kind) (r .count) .some; frame = r .frame; here = e; checked = c; base = omega arith; last = c .short; left = refl }
 
-module _ {b : List ℕ} {n : ℕ} {f : Frame} {w v : ℕ} {a : Raised} {k : ℕ} (x : Seek b n f w v a k) where
+module _ {K : Kind} {b : List ℕ} {n : ℕ} {f : Frame} {w v : ℕ} {a : Raised} {k : ℕ} (x : Seek K b n f w v a k) where
   abbrev z : ℕ
-  z = first-second b
+  z = (fix-at K b 0) .t
+
+  abbrev fix : ℕ → Fix
+  fix = fix-at K b
+
+  low : Low a
+  low = rw (x .here) (low-raised z (fix (k - 1)) (first-bounded (fix (k - 1)) (from fix k n) (x .checked)))
 
   module _ (h : k < n) where
-    ahead : CheckedTrail (fix-at trail b (k - 1)) (fix-at trail b k ∷ from b (k + 1) n)
-    ahead = rw (from-next b k n h) at (x .checked)
+    ahead : CheckedTrail widest (fix (k - 1)) (fix k ∷ from fix (k + 1) n)
+    ahead = rw (from-next fix k n h) at (x .checked)
 
-    last-ahead : (last-of (fix-at trail b k) (from b (k + 1) n)) .t ≤ z + 65535
+    last-ahead : (last-of (fix k) (from fix (k + 1) n)) .t ≤ z + 65535
     unfolding last-of
-    last-ahead = rw (from-next b k n h) at (x .last)
+    last-ahead = rw (from-next fix k n h) at (x .last)
 
-    pub seek-reach : Reach z (fix-at trail b k)
+    pub seek-reach : Reach ((fix-at K b 0) .t) (fix-at K b k)
     seek-reach =
         let g = leg-of _ _ _ ahead in
-        record { from = omega (arith, g .rises, x .base); to = omega (arith, last-ahead, last-after (fix-at trail b k) (from b (k + 1) n) (next _ _ _ ahead .after)); bounded = g .bounded-b }
+        record { from = omega (arith, g .rises, x .base); to = omega (arith, last-ahead, last-after (fix k) (from fix (k + 1) n) (next _ _ _ ahead .after)); bounded = g .bounded-b }
 
-    module _ {r : Raised} (e : r ≡ raised 16000 z (fix-at trail b k)) where
-      pub seek-rises : a .t .0 ≤ r .t .0
-      seek-rises = let g = leg-of _ _ _ ahead in rw (x .here, e) (omega (arith, g .rises))
+    module _ {r : Raised} (e : r ≡ raised ((fix-at K b 0) .t) (fix-at K b k)) where
+      pub seek-leg : LegFits a r f
+      seek-leg =
+          let g = leg-of _ _ _ ahead in
+          record { order = rw (x .here, e) (omega (arith, g .rises)); start = low; end = rw e (low-raised z (fix k) (g .bounded-b)); frame = x .frame }
 
-      step : first-from 16000 z (fix-at trail b (k - 1)) (from b k n) f w v ≡ or-else (leg-first a r f w v) (first-from 16000 z (fix-at trail b k) (from b (k + 1) n) f w v)
+      step : first-from z (fix (k - 1)) (from fix k n) f w v ≡ or-else (leg-first a r f w v) (first-from z (fix k) (from fix (k + 1) n) f w v)
       unfolding first-from
-      step = rw (from-next b k n h, x .here, e) refl
+      step = rw (from-next fix k n h, x .here, e) refl
 
-      pub seek-found : (o : Fraction) → leg-first a r f w v ≡ some o → first-from 16000 z (fix-at trail b 0) (from b 1 n) f w v ≡ some o
+      pub seek-found : (o : Fraction) → leg-first a r f w v ≡ some o → first-from ((fix-at K b 0) .t) (fix-at K b 0) (from (fix-at K b) 1 n) f w v ≡ some o
       seek-found o g = x .left ∙ step ∙ rw g refl
 
-      pub seek-next : leg-first a r f w v ≡ none → Seek b n f w v r (k + 1)
+      pub seek-next : leg-first a r f w v ≡ none → Seek K b n f w v r (k + 1)
       seek-next g =
           let m : k + 1 - 1 ≡ k = omega arith in
           record {
             some = omega arith;
             few = omega arith;
+            frame = x .frame;
             here = rw m e;
             checked = rw m (next _ _ _ ahead);
             base = rw m (seek-reach .from);
@@ -97,9 +110,12 @@ module _ {b : List ℕ} {n : ℕ} {f : Frame} {w v : ℕ} {a : Raised} {k : ℕ}
             left = rw m (x .left ∙ step ∙ rw g refl);
           }
 
-  pub seek-end : n ≤ k → first-from 16000 z (fix-at trail b 0) (from b 1 n) f w v ≡ leg-first a a f w v
+  pub seek-last : LegFits a a f
+  seek-last = record { order = omega arith; start = low; end = low; frame = x .frame }
+
+  pub seek-end : n ≤ k → first-from ((fix-at K b 0) .t) (fix-at K b 0) (from (fix-at K b) 1 n) f w v ≡ leg-first a a f w v
   unfolding first-from
-  seek-end h = let e : k ≡ n = omega (arith, x .few) in x .left ∙ rw (x .here, e, from-end b n) refl
+  seek-end h = let e : k ≡ n = omega (arith, x .few) in x .left ∙ rw (x .here, e, from-end fix n) refl
 
 pub frame-parts : (l r b t : Offset) (i j k m : ℕ) → l .0 ≡ i → r .0 ≡ j → b .0 ≡ k → t .0 ≡ m
     → _≡_ {A = Frame} (record { left = l; right = r; bottom = b; top = t }) (record { left = record { 0 = i }; right = record { 0 = j }; bottom = record { 0 = k }; top = record { 0 = m } })

@@ -37,20 +37,20 @@ half-up-requires : tie.Need-half-up-requires
 half-up-requires c κs = rw (magnitude-is c) (ranges (c .before) .roundable)
 
 sub-t6 : tie.Need-sub-t6
-sub-t6 c = let k = ranges (c .before .before .before) in let h = whole-fits (c .before) in simp (whole-is (c .before), toZ-ofZ, h .whole16) (k .less16)
+sub-t6 c = let k = ranges (c .before .before .before) in let h = whole-fits (c .before) in simp (whole-is (c .before), toZ-ofZ, h .whole32) (k .less32)
 
 returns : tie.Need-returns
 returns c =
     let s = c .before .before .before in
     let k = ranges s in
     let h = whole-fits (c .before) in
-    simp (whole-is (c .before), toZ-ofZ, h .whole16, k .less16) (below-rounded (s .args .n) (s .args .d) (below c))
+    simp (whole-is (c .before), toZ-ofZ, h .whole32, k .less32) (below-rounded (s .args .n) (s .args .d) (below c))
 
 returns-2 : tie.Need-returns-2
 returns-2 c =
     let s = c .before .before .before in
     let h = whole-fits (c .before) in
-    simp (whole-is (c .before), toZ-ofZ, h .whole16) (above-rounded (s .args .n) (s .args .d) (above c))
+    simp (whole-is (c .before), toZ-ofZ, h .whole32) (above-rounded (s .args .n) (s .args .d) (above c))
 
 pub rounded-spec : {M : Type 1} → statement M
 rounded-spec = tie.close (tie.spec magnitude-requires half-up-requires sub-t6 returns returns-2)

@@ -25,6 +25,7 @@ enum-told c = search needs
 returns : tie.Need-returns
 returns c =
     step-found
+    _
     (fixOf (c .before .before .before .before .s .given .0 .0))
     _
     _
@@ -34,7 +35,7 @@ returns c =
     (sym (ap found (c .before .before .before .before .s .given .1)))
 
 returns-2 : tie.Need-returns-2
-returns-2 c = ap (λ (s : Yielded). step-numbers (gives (found s))) (sym (c .enum-told .given .1))
+returns-2 c = ap (λ (s : Yielded). step-numbers (c .before .before .args .kind) (gives (found s))) (sym (c .enum-told .given .1))
 
 pub step-of-spec : {M : Type 1} → statement M
 step-of-spec =

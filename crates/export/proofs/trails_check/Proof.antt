@@ -27,7 +27,7 @@ returns c =
 
 returns-2 : tie.Need-returns-2
 returns-2 c =
-    head-accepted (now (c .before .before .before .before .before .args .b)) _ _ (c .head-of .ensures .0) (c .head-of .ensures .1) (sym (c .before .before .before .check .ensures) ∙ ap refused (c .before .enum-told .given .1))
+    head-accepted (now (c .before .before .before .before .before .args .b)) _ _ _ (c .head-of .ensures .0) (c .head-of .ensures .1) (c .head-of .ensures .2) (sym (c .before .before .before .check .ensures) ∙ ap refused (c .before .enum-told .given .1))
 
 pub trails-check-spec : {M : Type 1} → statement M
 trails-check-spec =

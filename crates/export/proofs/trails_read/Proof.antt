@@ -18,6 +18,9 @@ wide-requires c κs = search needs
 enum-told : tie.Need-enum-told
 enum-told c = search needs
 
+head-of-requires : tie.Need-head-of-requires
+head-of-requires c κs = search needs
+
 read-at-requires : tie.Need-read-at-requires
 read-at-requires c κs = search needs
 
@@ -28,7 +31,9 @@ returns : tie.Need-returns
 returns c = step-refused (now (c .before .before .before .before .before .before .args .b)) _ _ _ (c .wide .ensures) (sym (c .before .before .before .before .check .ensures) ∙ ap refused (c .before .before .c .given .1))
 
 returns-2 : tie.Need-returns-2
-returns-2 c = step-yielded (now (c .before .before .before .before .before .before .args .b)) _ _ _ (sym (c .before .before .before .before .check .ensures) ∙ ap refused (c .before .before .enum-told .given .1)) (c .step-of .ensures) (c .before .read-at .ensures)
+returns-2 c =
+    let b = now (c .before .before .before .before .before .before .before .args .b) in
+    step-yielded b _ _ _ _ (sym (c .before .before .before .before .before .check .ensures) ∙ ap refused (c .before .before .before .enum-told .given .1)) (c .before .before .head-of .ensures .0) (c .step-of .ensures) (c .before .read-at .ensures)
 
 pub trails-read-spec : {M : Type 1} → statement M
 trails-read-spec =
@@ -38,6 +43,7 @@ trails-read-spec =
     enum-known-c
     wide-requires
     enum-told
+    head-of-requires
     read-at-requires
     step-of-requires
     returns

@@ -1,5 +1,4 @@
-use mathlib.Core.Path.{sym, _∙_, ap}
-use Rattle.writing.specs.Answers.{wrote}
+use mathlib.Core.Path.{_∙_, ap}
 use Rattle.export.specs.Interface.{value-numbers}
 use borrow.Author.Needs.{needs}
 use Rattle.export.proofs.trails_write.Statement.{statement}
@@ -8,39 +7,16 @@ use Rattle.export.proofs.trails_write.Tie as tie
 write-requires : tie.Need-write-requires
 write-requires c κs = search needs
 
-enum-known-w : tie.Need-enum-known-w
-enum-known-w c = search needs
-
-enum-known-w-2 : tie.Need-enum-known-w-2
-enum-known-w-2 c = search needs
-
-wide-requires : tie.Need-wide-requires
-wide-requires c κs = search needs
+length-of-requires : tie.Need-length-of-requires
+length-of-requires c κs = search needs
 
 same-length : tie.Need-same-length
 same-length c = search needs
 
 returns : tie.Need-returns
-returns c = (ap value-numbers (sym (ap wrote (c .before .w .given .1)) ∙ c .before .before .before .before .before .write .ensures .0), c .before .before .before .before .before .write .ensures .1)
-
-same-length-2 : tie.Need-same-length-2
-same-length-2 c = search needs
-
-returns-2 : tie.Need-returns-2
-returns-2 c = (
-  rw (c .wide .ensures) (ap value-numbers (sym (ap wrote (c .before .before .w2 .given .1)) ∙ c .before .before .before .before .before .before .write .ensures .0)),
-  c .before .before .before .before .before .before .write .ensures .1,
-)
+returns c =
+    let done = c .before .before .before .write .ensures in
+    (c .length-of .ensures ∙ ap value-numbers (done .0), done .1)
 
 pub trails-write-spec : {M : Type 1} → statement M
-trails-write-spec =
-    tie.close
-    (tie.spec
-    write-requires
-    enum-known-w
-    enum-known-w-2
-    wide-requires
-    same-length
-    returns
-    same-length-2
-    returns-2)
+trails-write-spec = tie.close (tie.spec write-requires length-of-requires same-length returns)

@@ -1,57 +1,42 @@
-use mathlib.Core.Path.{_∙_, ap}
-use Rattle.format.specs.Bytes.{signed}
-use Rattle.format.specs.Laws.Numbers.{fix-parts}
+use native.Mathlib.Omega.{arith}
+use Rattle.format.specs.Format.{fix-at}
 use borrow.Author.Needs.{needs}
 use Rattle.format.proofs.fix_at.Statement.{statement}
 use Rattle.format.proofs.fix_at.Tie as tie
 
-mul-at : tie.Need-mul-at
-mul-at c = search needs
+enum-told : tie.Need-enum-told
+enum-told c = search needs
 
-add-at : tie.Need-add-at
-add-at c = search needs
+mul-narrow-fix : tie.Need-mul-narrow-fix
+mul-narrow-fix c = let p = rw (c .enum-told .given .1) at (c .before .before .before .pre) in omega arith
 
-four-at-requires : tie.Need-four-at-requires
-four-at-requires c κs = search needs
+add-narrow-fix : tie.Need-add-narrow-fix
+add-narrow-fix c = let p = rw (c .enum-told .given .1) at (c .before .before .before .pre) in omega arith
 
-add-two-at : tie.Need-add-two-at
-add-two-at c = search needs
+narrow-fix-requires : tie.Need-narrow-fix-requires
+narrow-fix-requires c κs = let p = rw (c .enum-told .given .1) at (c .before .before .before .pre) in omega arith
 
-two-at-requires : tie.Need-two-at-requires
-two-at-requires c κs = search needs
+enum-told-2 : tie.Need-enum-told-2
+enum-told-2 c = search needs
 
-coordinate-requires : tie.Need-coordinate-requires
-coordinate-requires c κs = search needs
+mul-wide-fix : tie.Need-mul-wide-fix
+mul-wide-fix c = let p = rw (c .enum-told2 .given .1) at (c .before .before .before .pre) in omega arith
 
-add-two-at-2 : tie.Need-add-two-at-2
-add-two-at-2 c = search needs
+add-wide-fix : tie.Need-add-wide-fix
+add-wide-fix c = let p = rw (c .enum-told2 .given .1) at (c .before .before .before .pre) in omega arith
 
-two-at-requires-2 : tie.Need-two-at-requires-2
-two-at-requires-2 c κs = search needs
-
-coordinate-requires-2 : tie.Need-coordinate-requires-2
-coordinate-requires-2 c κs = search needs
+wide-fix-requires : tie.Need-wide-fix-requires
+wide-fix-requires c κs = let p = rw (c .enum-told2 .given .1) at (c .before .before .before .pre) in omega arith
 
 returns : tie.Need-returns
-returns c =
-    let s = c .before .before .before .before .before .before in
-    let two = c .before .before .before .two-at .ensures .0 in
-    let two2 = c .before .two-at2 .ensures .0 in
-    fix-parts _ (s .args .k) _ _ _ (c .before .before .before .before .four-at .ensures)
-    (c .before .before .coordinate .ensures ∙ ap (signed 2) two)
-    (c .coordinate2 .ensures ∙ ap (signed 2) two2)
+unfolding fix-at
+returns c = rw (c .before .enum-told .given .1) (c .narrow-fix .ensures)
+
+returns-2 : tie.Need-returns-2
+unfolding fix-at
+returns-2 c = rw (c .before .enum-told2 .given .1) (c .wide-fix .ensures)
 
 pub fix-at-spec : {M : Type 1} → statement M
 fix-at-spec =
     tie.close
-    (tie.spec
-    mul-at
-    add-at
-    four-at-requires
-    add-two-at
-    two-at-requires
-    coordinate-requires
-    add-two-at-2
-    two-at-requires-2
-    coordinate-requires-2
-    returns)
+    (tie.spec enum-told mul-narrow-fix add-narrow-fix narrow-fix-requires enum-told-2 mul-wide-fix add-wide-fix wide-fix-requires returns returns-2)

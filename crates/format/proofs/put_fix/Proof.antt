@@ -1,50 +1,43 @@
-use mathlib.Core.Path.{_∙_}
-use Rattle.distance.specs.Fix.{fixOf}
-use Rattle.format.specs.Laws.Stores.{fix-stores}
+use Rattle.format.specs.Format.{fix-bytes}
 use borrow.Author.Needs.{needs}
 use Rattle.format.proofs.put_fix.Statement.{statement}
 use Rattle.format.proofs.put_fix.Tie as tie
 
-put-four-requires : tie.Need-put-four-requires
-put-four-requires c κs = search needs
+enum-told : tie.Need-enum-told
+enum-told c = search needs
 
-add-put-two : tie.Need-add-put-two
-add-put-two c = search needs
+put-narrow-fix-requires : tie.Need-put-narrow-fix-requires
+put-narrow-fix-requires c κs = let p = rw (c .before .enum-told .given .1) at (c .before .before .before .before .pre) in search needs
 
-coordinate-number-requires : tie.Need-coordinate-number-requires
-coordinate-number-requires c κs = search needs
+enum-told-2 : tie.Need-enum-told-2
+enum-told-2 c = search needs
 
-put-two-requires : tie.Need-put-two-requires
-put-two-requires c κs = search needs
-
-add-put-two-2 : tie.Need-add-put-two-2
-add-put-two-2 c = search needs
-
-coordinate-number-requires-2 : tie.Need-coordinate-number-requires-2
-coordinate-number-requires-2 c κs = search needs
-
-put-two-requires-2 : tie.Need-put-two-requires-2
-put-two-requires-2 c κs = search needs
+put-wide-fix-requires : tie.Need-put-wide-fix-requires
+put-wide-fix-requires c κs = let p = rw (c .before .enum-told2 .given .1) at (c .before .before .before .before .pre) in search needs
 
 same-length : tie.Need-same-length
 same-length c = search needs
 
 returns : tie.Need-returns
-returns c =
-    c .before .before .put-two2 .ensures
-    ∙ rw (c .before .before .before .coordinate-number2 .ensures, c .before .before .before .before .before .before .before .put-two .ensures, c .before .before .before .before .before .before .before .before .coordinate-number .ensures, c .before .before .before .before .before .before .before .before .before .before .before .before .put-four .ensures)
-    (fix-stores _ _ (fixOf (c .before .before .before .before .before .before .before .before .before .before .before .before .before .before .before .before .args .f)))
+unfolding fix-bytes
+returns c = rw (c .before .before .before .before .enum-told .given .1) (c .before .before .put-narrow-fix .ensures)
+
+same-length-2 : tie.Need-same-length-2
+same-length-2 c = search needs
+
+returns-2 : tie.Need-returns-2
+unfolding fix-bytes
+returns-2 c = rw (c .before .before .before .before .enum-told2 .given .1) (c .before .before .put-wide-fix .ensures)
 
 pub put-fix-spec : {M : Type 1} → statement M
 put-fix-spec =
     tie.close
     (tie.spec
-    put-four-requires
-    add-put-two
-    coordinate-number-requires
-    put-two-requires
-    add-put-two-2
-    coordinate-number-requires-2
-    put-two-requires-2
+    enum-told
+    put-narrow-fix-requires
+    enum-told-2
+    put-wide-fix-requires
     same-length
-    returns)
+    returns
+    same-length-2
+    returns-2)

@@ -1,13 +1,16 @@
 -- A record with each fix changed: the head and the size stay, and the fixes are those that the new bytes say.
-use mathlib.Core.Path.{_≡_, sym, _∙_, ap}
+use mathlib.Core.Path.{_≡_, refl, sym, _∙_, ap}
 use mathlib.Core.List.{List, _++_, append-assoc, map, map-map}
 use Prim.Native.Nat.{ℕ, _+_, _*_, _≤_}
+use native.Mathlib.Nat.{mul-zero}
 use native.Mathlib.Omega.{arith}
 use lib.ListN.{length, take, drop, length-take, length-map}
 use lib.Seq.{sets, length-sets, sets-eq}
 use Rattle.distance.specs.Fix.{Fix}
 use Rattle.distance.specs.Laws.All.{All, all-map, all-sets}
-use Rattle.format.specs.Format.{trail, each, fix-at, all-bytes, length-field, kind-field, mark-field, count-field, fixes, changed}
+use Rattle.format.specs.Kinds.{Kind}
+use Rattle.format.specs.Format.{kind-of, record-length, each, fix-at, all-bytes, length-field, kind-field, mark-field, count-field, fixes, changed}
+use Rattle.format.specs.Laws.Kinds.{kind-of-is, same-kind-of}
 use Rattle.format.specs.Laws.Each.{length-each}
 use Rattle.format.specs.Laws.Stores.{number-before}
 use Rattle.format.specs.Laws.Layout.{length-all-bytes}
@@ -25,35 +28,43 @@ pub same-head-swap : {b c : List ℕ} → SameHead b c → SameHead c b
 same-head-swap h = record { same-size = sym (h .same-size); same-length = sym (h .same-length); same-kind = sym (h .same-kind); same-mark = sym (h .same-mark); same-count = sym (h .same-count) }
 
 module _ (f : Fix → Fix) (b : List ℕ) where
-  pub changed-head : SameHead b (changed trail f b)
-  unfolding changed
-  changed-head =
-      let l = all-bytes trail (map f (fixes trail b)) in
-      record {
-        same-size = length-sets b 10 l;
-        same-length = number-before b 10 l 0 4 (omega arith);
-        same-kind = number-before b 10 l 4 2 (omega arith);
-        same-mark = number-before b 10 l 6 2 (omega arith);
-        same-count = number-before b 10 l 8 2 (omega arith);
-      }
+  abbrev K : Kind
+  K = kind-of b
 
-  pub changed-bytes : AreBytes b → AreBytes (changed trail f b)
-  unfolding changed
-  changed-bytes h = all-sets 10 (fixes-are-bytes (map f (fixes trail b))) h
+  abbrev new-bytes : List ℕ
+  new-bytes = all-bytes K (map f (fixes b))
 
-  pub changed-fixes : 10 + 8 * count-field b ≤ length b → All Storable (map f (fixes trail b)) → fixes trail (changed trail f b) ≡ map (λ (a : Fix). said (f a)) (fixes trail b)
+  pub changed-head : SameHead b (changed f b)
+  unfolding changed
+  changed-head = record {
+    same-size = length-sets b 10 new-bytes;
+    same-length = number-before b 10 new-bytes 0 4 (omega arith);
+    same-kind = number-before b 10 new-bytes 4 2 (omega arith);
+    same-mark = number-before b 10 new-bytes 6 2 (omega arith);
+    same-count = number-before b 10 new-bytes 8 2 (omega arith);
+  }
+
+  pub changed-bytes : AreBytes b → AreBytes (changed f b)
+  unfolding changed
+  changed-bytes h = all-sets 10 (fixes-are-bytes K (map f (fixes b))) h
+
+  pub changed-fixes : record-length K (count-field b) ≤ length b → All (Storable K) (map f (fixes b)) → fixes (changed f b) ≡ map (λ (a : Fix). said K (f a)) (fixes b)
   unfolding changed
   changed-fixes whole h =
-      let l = map f (fixes trail b) in
-      let many : length l ≡ count-field b = length-map (fixes trail b) f ∙ length-each (fix-at trail b) 0 (count-field b) in
-      let size : length (all-bytes trail l) ≡ 8 * count-field b = length-all-bytes l ∙ ap (λ (n : ℕ). 8 * n) many in
+      let is = kind-of-is b in
+      let l = map f (fixes b) in
+      let many : length l ≡ count-field b = length-map (fixes b) f ∙ length-each (fix-at K b) 0 (count-field b) in
+      let size : length new-bytes ≡ K .size * count-field b = length-all-bytes K is l ∙ ap (λ (n : ℕ). K .size * n) many in
+      let start : record-length K 0 ≡ 10 = rw mul-zero refl in
       let front : length (take 10 b) ≡ 10 = length-take 10 b ∙ omega arith in
-      let e : sets b 10 (all-bytes trail l) ≡ take 10 b ++ (all-bytes trail l ++ drop (10 + length (all-bytes trail l)) b) = sets-eq (all-bytes trail l) b 10 (omega arith) ∙ append-assoc (take 10 b) (all-bytes trail l) _ in
-      let count : count-field (sets b 10 (all-bytes trail l)) ≡ length l = number-before b 10 (all-bytes trail l) 8 2 (omega arith) ∙ sym many in
-      ap (each (fix-at trail (sets b 10 (all-bytes trail l))) 0) count
-      ∙ ap (λ (c : List ℕ). each (fix-at trail c) 0 (length l)) e
-      ∙ read-fixes (take 10 b) (drop (10 + length (all-bytes trail l)) b) 0 front h ∙ map-map said f (fixes trail b)
+      let e : sets b 10 new-bytes ≡ take 10 b ++ (new-bytes ++ drop (10 + length new-bytes) b) = sets-eq new-bytes b 10 (omega arith) ∙ append-assoc (take 10 b) new-bytes _ in
+      let kind : kind-of (sets b 10 new-bytes) ≡ K = same-kind-of b (sets b 10 new-bytes) (number-before b 10 new-bytes 4 2 (omega arith)) in
+      let count : count-field (sets b 10 new-bytes) ≡ length l = number-before b 10 new-bytes 8 2 (omega arith) ∙ sym many in
+      ap (λ (J : Kind). each (fix-at J (sets b 10 new-bytes)) 0 (count-field (sets b 10 new-bytes))) kind
+      ∙ ap (each (fix-at K (sets b 10 new-bytes)) 0) count
+      ∙ ap (λ (c : List ℕ). each (fix-at K c) 0 (length l)) e
+      ∙ read-fixes K is (take 10 b) (drop (10 + length new-bytes) b) 0 (front ∙ sym start) h ∙ map-map (said K) f (fixes b)
 
   -- those that are in range are the changed ones themselves
-  pub changed-in-range : 10 + 8 * count-field b ≤ length b → All InRange (map f (fixes trail b)) → fixes trail (changed trail f b) ≡ map f (fixes trail b)
-  changed-in-range whole h = changed-fixes whole (all-map storable h) ∙ sym (map-map said f (fixes trail b)) ∙ all-said h
+  pub changed-in-range : record-length K (count-field b) ≤ length b → All (InRange K) (map f (fixes b)) → fixes (changed f b) ≡ map f (fixes b)
+  changed-in-range whole h = changed-fixes whole (all-map (storable K (kind-of-is b)) h) ∙ sym (map-map (said K) f (fixes b)) ∙ all-said K (kind-of-is b) h

@@ -4,6 +4,7 @@ use mathlib.Core.List.{List, [], _∷_, _++_}
 use Prim.Native.Nat.{ℕ, zero, suc, _+_, _-_, _<_, _≤_}
 use native.Mathlib.Omega.{arith}
 use lib.ListN.{length}
+use Rattle.distance.specs.Laws.All.{All, all-more}
 use Rattle.format.specs.Format.{each}
 
 module _ {A : Type 0} where
@@ -35,3 +36,13 @@ module _ {A : Type 0} where
   unfolding each
   each-first f k zero h = absurd (omega arith)
   each-first f k (suc n) h = let e : suc n - 1 ≡ n = omega arith in rw e refl
+
+  -- what holds of all holds at each position
+  all-from : {P : A → Type 0} (f : ℕ → A) (k n i : ℕ) → All P (each f k n) → i < n → P (f (k + i))
+  unfolding each
+  all-from f k (suc n) zero (all-more h t) less = let e : k + 0 ≡ k = omega arith in rw e h
+  all-from f k (suc n) (suc i) (all-more h t) less = let e : suc k + i ≡ k + suc i = omega arith in rw (← e) (all-from f (suc k) n i t (omega arith))
+  all-from f k zero i h less = absurd (omega arith)
+
+  pub all-at : {P : A → Type 0} (f : ℕ → A) (n i : ℕ) → All P (each f 0 n) → i < n → P (f i)
+  all-at f n i h less = let e : 0 + i ≡ i = omega arith in rw e at (all-from f 0 n i h less)

@@ -2,6 +2,7 @@
 use mathlib.Core.Path.{_≡_, refl, sym, _∙_, ap}
 use mathlib.Core.List.{List, [], _∷_, _++_, append-nil, append-assoc}
 use Prim.Native.Nat.{ℕ, _+_, _*_, _<_, _≤_}
+use native.Mathlib.Nat.{mul-suc, mul-zero}
 use native.Mathlib.Omega.{arith}
 use lib.ListN.{length, drop, length-append}
 use lib.Seq.{sets}
@@ -9,8 +10,10 @@ use native.Mathlib.Numerals.{add-one}
 use borrow.Author.Tests.{lt-ltb, le-ltb}
 use Rattle.distance.specs.Fix.{Fix}
 use Rattle.format.specs.Bytes.{bytes-of}
-use Rattle.format.specs.Format.{trail, each, fix-bytes, all-bytes, header-bytes, record-bytes, of-head}
-use Rattle.format.specs.Laws.Stores.{sets-then, sets-front}
+use Rattle.format.specs.Kinds.{Kind}
+use Rattle.format.specs.Format.{record-length, each, fix-to, fix-bytes, all-bytes, header-bytes, record-bytes, of-head}
+use Rattle.format.specs.Laws.Kinds.{IsKind}
+use Rattle.format.specs.Laws.Stores.{length-bytes, sets-then, sets-front}
 use Rattle.format.specs.Laws.Each.{length-each, each-more}
 
 -- a field of the head, where there are 10 bytes and where not
@@ -23,46 +26,46 @@ unfolding of-head
 of-head-field field b h = rw (le-ltb (length b) 10 h) refl
 
 -- ---- the bytes of a list of fixes
-pub length-fix-bytes : (f : Fix) → length (fix-bytes trail f) ≡ 8
-unfolding fix-bytes bytes-of
-length-fix-bytes f = refl
+pub length-fix-bytes : (K : Kind) → IsKind K → (f : Fix) → length (fix-bytes K f) ≡ K .size
+unfolding fix-bytes fix-to
+length-fix-bytes K is f = rw (length-append, length-append, length-bytes, length-bytes, length-bytes, is .size-is) (omega arith)
 
-pub length-all-bytes : (l : List Fix) → length (all-bytes trail l) ≡ 8 * length l
+pub length-all-bytes : (K : Kind) → IsKind K → (l : List Fix) → length (all-bytes K l) ≡ K .size * length l
 unfolding all-bytes
-length-all-bytes [] = refl
-length-all-bytes (f ∷ l) = length-append (fix-bytes trail f) (all-bytes trail l) ∙ rw (length-fix-bytes f, length-all-bytes l) (omega arith)
+length-all-bytes K is [] = rw mul-zero refl
+length-all-bytes K is (f ∷ l) = length-append (fix-bytes K f) (all-bytes K l) ∙ rw (length-fix-bytes K is f, length-all-bytes K is l, mul-suc) (omega arith)
 
-pub all-bytes-more : (l : List Fix) (f : Fix) → all-bytes trail (l ++ f ∷ []) ≡ all-bytes trail l ++ fix-bytes trail f
+pub all-bytes-more : (K : Kind) (l : List Fix) (f : Fix) → all-bytes K (l ++ f ∷ []) ≡ all-bytes K l ++ fix-bytes K f
 unfolding all-bytes
-all-bytes-more [] f = append-nil (fix-bytes trail f)
-all-bytes-more (g ∷ l) f = ap (λ (m : List ℕ). fix-bytes trail g ++ m) (all-bytes-more l f) ∙ sym (append-assoc (fix-bytes trail g) (all-bytes trail l) (fix-bytes trail f))
+all-bytes-more K [] f = append-nil (fix-bytes K f)
+all-bytes-more K (g ∷ l) f = ap (λ (m : List ℕ). fix-bytes K g ++ m) (all-bytes-more K l f) ∙ sym (append-assoc (fix-bytes K g) (all-bytes K l) (fix-bytes K f))
 
 -- the loop over positions: fix k follows on the fixes before it
-pub stores-more : (b : List ℕ) (f : ℕ → Fix) (a : Fix) (k : ℕ) → a ≡ f k
-    → sets (sets b 10 (all-bytes trail (each f 0 k))) (10 + 8 * k) (fix-bytes trail a) ≡ sets b 10 (all-bytes trail (each f 0 (k + 1)))
-stores-more b f a k e =
-    let m : 10 + 8 * k ≡ 10 + length (all-bytes trail (each f 0 k)) = rw (length-all-bytes (each f 0 k), length-each f 0 k) refl in
+pub stores-more : (K : Kind) → IsKind K → (b : List ℕ) (f : ℕ → Fix) (a : Fix) (k : ℕ) → a ≡ f k
+    → sets (sets b 10 (all-bytes K (each f 0 k))) (record-length K k) (fix-bytes K a) ≡ sets b 10 (all-bytes K (each f 0 (k + 1)))
+stores-more K is b f a k e =
+    let m : record-length K k ≡ 10 + length (all-bytes K (each f 0 k)) = rw (length-all-bytes K is (each f 0 k), length-each f 0 k) refl in
     let n : 0 + k ≡ k = omega arith in
-    sets-then b 10 (all-bytes trail (each f 0 k)) (10 + 8 * k) (fix-bytes trail a) m
-    ∙ rw (add-one, each-more f 0 k, n, all-bytes-more (each f 0 k) (f k), e) refl
+    sets-then b 10 (all-bytes K (each f 0 k)) (record-length K k) (fix-bytes K a) m
+    ∙ rw (add-one, each-more f 0 k, n, all-bytes-more K (each f 0 k) (f k), e) refl
 
-pub length-header : (mark n : ℕ) → length (header-bytes trail mark n) ≡ 10
+pub length-header : (K : Kind) (mark n : ℕ) → length (header-bytes K mark n) ≡ 10
 unfolding header-bytes bytes-of
-length-header mark n = refl
+length-header K mark n = refl
 
-pub length-record : (mark : ℕ) (l : List Fix) → length (record-bytes trail mark l) ≡ 10 + 8 * length l
+pub length-record : (K : Kind) → IsKind K → (mark : ℕ) (l : List Fix) → length (record-bytes K mark l) ≡ record-length K (length l)
 unfolding record-bytes
-length-record mark l = length-append (header-bytes trail mark (length l)) (all-bytes trail l) ∙ rw (length-header mark (length l), length-all-bytes l) refl
+length-record K is mark l = length-append (header-bytes K mark (length l)) (all-bytes K l) ∙ rw (length-header K mark (length l), length-all-bytes K is l) refl
 
 -- the head and the fixes make the record, and what stood after it stays
-pub record-stores : (b : List ℕ) (mark : ℕ) (l : List Fix) → 10 + 8 * length l ≤ length b
-    → sets (sets b 0 (header-bytes trail mark (length l))) 10 (all-bytes trail l) ≡ record-bytes trail mark l ++ drop (10 + 8 * length l) b
+pub record-stores : (K : Kind) → IsKind K → (b : List ℕ) (mark : ℕ) (l : List Fix) → record-length K (length l) ≤ length b
+    → sets (sets b 0 (header-bytes K mark (length l))) 10 (all-bytes K l) ≡ record-bytes K mark l ++ drop (record-length K (length l)) b
 unfolding record-bytes
-record-stores b mark l h =
-    let head = header-bytes trail mark (length l) in
-    let e : length (head ++ all-bytes trail l) ≡ 10 + 8 * length l = length-append head (all-bytes trail l) ∙ rw (length-header mark (length l), length-all-bytes l) refl in
-    sets-then b 0 head 10 (all-bytes trail l) (rw (length-header mark (length l)) refl) ∙ sets-front b (head ++ all-bytes trail l) (omega arith) ∙ rw e refl
+record-stores K is b mark l h =
+    let head = header-bytes K mark (length l) in
+    let e : length (head ++ all-bytes K l) ≡ record-length K (length l) = length-append head (all-bytes K l) ∙ rw (length-header K mark (length l), length-all-bytes K is l) refl in
+    sets-then b 0 head 10 (all-bytes K l) (rw (length-header K mark (length l)) refl) ∙ sets-front b (head ++ all-bytes K l) (omega arith) ∙ rw e refl
 
-pub stores-none : (b : List ℕ) (f : ℕ → Fix) → b ≡ sets b 10 (all-bytes trail (each f 0 0))
+pub stores-none : (K : Kind) (b : List ℕ) (f : ℕ → Fix) → b ≡ sets b 10 (all-bytes K (each f 0 0))
 unfolding each all-bytes
-stores-none b f = refl
+stores-none K b f = refl

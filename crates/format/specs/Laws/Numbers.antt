@@ -1,7 +1,8 @@
 -- Numbers of bytes: what the code's sums and two's complement come to.
 use mathlib.Core.Path.{_≡_, refl, sym, _∙_, ap}
 use mathlib.Core.List.{List}
-use Prim.Native.Nat.{ℕ, suc, _+_, _*_, _-_, _^_, _<_, _≤_}
+use Prim.Native.Nat.{ℕ, zero, suc, _+_, _*_, _-_, _^_, _<_, _≤_}
+use native.Mathlib.Nat.{pow-suc}
 use native.Mathlib.Omega.{arith}
 use native.Mathlib.Numerals.{add-one, add-two, add-three}
 use lib.ListN.{getD}
@@ -10,14 +11,14 @@ use lib.Dec.{T}
 use lib.IntN.{ℤ, pos, negsuc, natAbs, _+ℤ_, _-ℤ_}
 use lib.Signed.{nonNeg, ltZ}
 use borrow.Author.Tests.{lt-ltb, le-ltb}
-use mir.Syntax.{w16, w32}
-use mir.Val.{Fits, SFits, toZ}
+use mir.Syntax.{Width, w32, w64}
+use mir.Val.{Fits, SFits, toZ, hbits}
 use mir.Facts.{toZ-pos}
 use Rattle.distance.specs.Integers.Differences.{diffs}
 use Rattle.distance.specs.Integers.Order.{ltZ-false, zero-le}
 use Rattle.distance.specs.Integers.Bounds.{Bound, _⊕_, of-width, fits}
-use Rattle.format.specs.Bytes.{number-at, signed, unsigned}
-use Rattle.format.specs.Format.{trail, fix-at}
+use Rattle.format.specs.Bytes.{InBytes, number-at, signed, unsigned}
+use Rattle.format.specs.Format.{fix-from}
 use Rattle.distance.specs.Fix.{Fix}
 
 pub false-true : false ≡ true → ⊥
@@ -32,61 +33,68 @@ pub four-bytes : (b : List ℕ) (at : ℕ) → getD b at 0 + getD b (at + 1) 0 *
 unfolding number-at
 four-bytes b at = rw (add-one, add-two, add-three) (omega arith)
 
--- two's complement in two bytes: the lower half, and the upper, where 65,535 − n counts down from −1
-pub signed-low : (n : ℕ) → n < 32768 → pos n ≡ signed 2 n
-unfolding signed
-signed-low n h = rw (lt-ltb (2 * n) 65536 (omega arith)) refl
+pub even : (width : ℕ) → 1 ≤ width → 2 * (128 * 256 ^ (width - 1)) ≡ 256 ^ width
+even zero h = absurd (omega arith)
+even (suc w) h = let e : suc w - 1 ≡ w = omega arith in rw (e, pow-suc 256 w) (omega arith)
 
-pub signed-high : (n : ℕ) → 32768 ≤ n → n < 65536 → negsuc (65535 - n) ≡ signed 2 n
+-- two's complement: the lower half, and the upper, where 256 to the power of size less 1 less n counts down from −1
+pub signed-low : (size n : ℕ) → 2 * n < 256 ^ size → pos n ≡ signed size n
 unfolding signed
-signed-high n h k = rw (le-ltb (2 * n) 65536 (omega arith)) (simp diffs (omega arith))
+signed-low size n h = rw (lt-ltb (2 * n) (256 ^ size) h) refl
 
--- −1 − k, computed by the code in 16 bits
+pub signed-high : (size n : ℕ) → 256 ^ size ≤ 2 * n → n < 256 ^ size → negsuc (256 ^ size - 1 - n) ≡ signed size n
+unfolding signed
+signed-high size n h k = rw (le-ltb (2 * n) (256 ^ size) h) (simp diffs (omega arith))
+
+-- −1 − k, computed by the code in 16 bits or in 32
 minus-one-less : (k : ℕ) → negsuc 0 -ℤ pos k ≡ negsuc k
 minus-one-less k = simp diffs (omega arith)
 
-module _ (n : ℕ) (low : 32768 ≤ n) (high : n < 65536) where
-  small : 65535 - n < 2 ^ 15
-  small = omega arith
+module _ (w : Width) (k : ℕ) (small : k < 2 ^ hbits w) where
+  pub complement : negsuc 0 -ℤ toZ w k ≡ negsuc k
+  complement = ap (λ (z : ℤ). negsuc 0 -ℤ z) (toZ-pos w small) ∙ minus-one-less k
 
-  pub complement : negsuc 0 -ℤ toZ w16 (65535 - n) ≡ negsuc (65535 - n)
-  complement = ap (λ (z : ℤ). negsuc 0 -ℤ z) (toZ-pos w16 small) ∙ minus-one-less (65535 - n)
-
-  pub complement-fits : SFits w16 (negsuc 0 -ℤ toZ w16 (65535 - n))
+  pub complement-fits : SFits w (negsuc 0 -ℤ toZ w k)
   complement-fits = rw complement (record { sfits = small })
 
--- a fix of kind 1, from its parts
-pub fix-parts : (b : List ℕ) (k t : ℕ) (x y : ℤ) → t ≡ number-at b (10 + 8 * k) 4 → x ≡ signed 2 (number-at b (10 + 8 * k + 4) 2) → y ≡ signed 2 (number-at b (10 + 8 * k + 6) 2)
-    → _≡_ {A = Fix} (record { t = t; x = x; y = y }) (fix-at trail b k)
-unfolding fix-at
-fix-parts b k t x y p q r = let e : 10 + 8 * k + 6 ≡ 10 + 8 * k + 4 + 2 = omega arith in rw (p, q, r, e) refl
+-- a fix, from its parts
+pub fix-parts : (width : ℕ) (b : List ℕ) (at t : ℕ) (x y : ℤ) → t ≡ number-at b at 4 → x ≡ signed width (number-at b (at + 4) width)
+    → y ≡ signed width (number-at b (at + 4 + width) width)
+    → _≡_ {A = Fix} (record { t = t; x = x; y = y }) (fix-from width b at)
+unfolding fix-from
+fix-parts width b at t x y p q r = rw (p, q, r) refl
 
--- ---- the other way: the number that says a coordinate
-pub record NumberFits (z : ℤ) : Type 0 where
-  pub z16 : SFits w16 z
+-- ---- the other way: the number that says a coordinate, computed in 64 bits
+pub record NumberFits (size : ℕ) (z : ℤ) : Type 0 where
   pub z32 : SFits w32 z
-  pub sum32 : SFits w32 (z +ℤ pos 65536)
+  pub z64 : SFits w64 z
+  pub sum64 : SFits w64 (z +ℤ pos (256 ^ size))
 
-pub number-fits : {z : ℤ} → SFits w16 z → NumberFits z
-number-fits {z} f =
-    let up : Bound (pos 65536) = record { top = 65536; holds = omega arith } in
-    record { z16 = f; z32 = fits w32 (of-width w16 f) tt; sum32 = fits w32 (of-width w16 f ⊕ up) tt }
+pub number-fits : (size : ℕ) {z : ℤ} → 256 ^ size ≤ 4294967296 → SFits w32 z → NumberFits size z
+number-fits size {z} h f =
+    let up : Bound (pos (256 ^ size)) = record { top = 4294967296; holds = h } in
+    record { z32 = f; z64 = fits w64 (of-width w32 f) tt; sum64 = fits w64 (of-width w32 f ⊕ up) tt }
 
--- below 0 it is 65,536 more than the coordinate, else the coordinate itself
-pub record NumberIs (z u : ℤ) : Type 0 where
+-- 32 bits are four bytes
+pub in-four : {z : ℤ} → SFits w32 z → InBytes 4 z
+in-four f = record { in-bytes = omega (arith, f .sfits) }
+
+-- below 0 it is 256 to the power of size more than the coordinate, else the coordinate itself
+pub record NumberIs (size : ℕ) (z u : ℤ) : Type 0 where
   pub not-negative : T (nonNeg u)
   pub fits32 : Fits w32 (natAbs u)
-  pub is : natAbs u ≡ unsigned 2 z
+  pub is : natAbs u ≡ unsigned size z
 
-pub number-negative : (z : ℤ) → SFits w16 z → ltZ z (pos 0) ≡ true → NumberIs z (z +ℤ pos 65536)
+pub number-negative : (size : ℕ) (z : ℤ) → 1 ≤ size → 256 ^ size ≤ 4294967296 → InBytes size z → ltZ z (pos 0) ≡ true → NumberIs size z (z +ℤ pos (256 ^ size))
 unfolding unsigned
-number-negative (pos n) f h = absurd (false-true (sym (ltZ-false {x = pos n} {y = pos 0} (zero-le n)) ∙ h))
-number-negative (negsuc n) f h =
-    let small : n < 32768 = f .sfits in
-    let e : negsuc n +ℤ pos 65536 ≡ pos (65536 - suc n) = simp diffs (omega arith) in
+number-negative size (pos n) o t f h = absurd (false-true (sym (ltZ-false {x = pos n} {y = pos 0} (zero-le n)) ∙ h))
+number-negative size (negsuc n) o t f h =
+    let small : 2 * n < 256 ^ size = f .in-bytes in
+    let g = even size o in
+    let e : negsuc n +ℤ pos (256 ^ size) ≡ pos (256 ^ size - suc n) = simp diffs (omega arith) in
     record { not-negative = rw e tt; fits32 = rw e (record { fits = omega arith }); is = rw e refl }
 
-pub number-positive : (z : ℤ) → SFits w16 z → ltZ z (pos 0) ≡ false → NumberIs z z
+pub number-positive : (size : ℕ) (z : ℤ) → 256 ^ size ≤ 4294967296 → InBytes size z → ltZ z (pos 0) ≡ false → NumberIs size z z
 unfolding unsigned
-number-positive (pos n) f h = let small : n < 32768 = f .sfits in record { not-negative = tt; fits32 = record { fits = omega arith }; is = refl }
-number-positive (negsuc n) f h = absurd (false-true (sym h))
+number-positive size (pos n) t f h = let small : 2 * n < 256 ^ size = f .in-bytes in record { not-negative = tt; fits32 = record { fits = omega arith }; is = refl }
+number-positive size (negsuc n) t f h = absurd (false-true (sym h))

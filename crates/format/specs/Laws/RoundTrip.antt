@@ -4,24 +4,27 @@ use mathlib.Core.Path.{_≡_, refl, sym, _∙_, ap}
 use mathlib.Core.Bool.{Bool, true, false, cond}
 use mathlib.Core.List.{List, [], _∷_, _++_, map, append-assoc}
 use Prim.Native.Nat.{ℕ, zero, suc, _+_, _*_, _-_, _/_, _%_, _^_, _<_, _≤_}
-use native.Mathlib.Nat.{pow-suc}
+use native.Mathlib.Nat.{pow-suc, mul-zero, mul-suc}
 use native.Mathlib.Numerals.{add-one}
 use native.Mathlib.Omega.{arith}
 use lib.Dec.{ltb}
 use lib.ListN.{length, getD, take, drop, length-append}
-use lib.Seq.{getD-append-seam, drop-cons, take-add, drop-drop}
-use lib.IntN.{ℤ, pos, negsuc}
+use lib.Seq.{sets, getD-append-seam, drop-cons, take-add, drop-drop}
+use lib.IntN.{ℤ, pos, negsuc, negℤ}
+use lib.Signed.{_≤ℤ_}
 use borrow.Author.Tests.{ltb-true}
-use mir.Syntax.{w16}
-use mir.Val.{SFits}
-use Rattle.distance.specs.Fix.{Fix}
+use Rattle.distance.specs.Fix.{Fix, Bounded}
 use Rattle.distance.specs.Laws.All.{All, all-none, all-more, all-append, all-map}
+use Rattle.distance.specs.Integers.Differences.{diffs}
 use Rattle.distance.specs.Integers.Tests.{Test, holds, fails, test}
-use Rattle.format.specs.Bytes.{number-at, bytes-of, signed, unsigned}
-use Rattle.format.specs.Format.{trail, each, fix-at, fix-bytes, all-bytes, header-bytes, record-bytes, length-field, kind-field, mark-field, count-field, fixes}
-use Rattle.format.specs.Laws.Numbers.{signed-low, signed-high, fix-parts, false-true}
+use Rattle.format.specs.declared.Kind.{Kind as CodeKind}
+use Rattle.format.specs.Bytes.{InBytes, number-at, bytes-of, signed, unsigned}
+use Rattle.format.specs.Kinds.{Kind, layout}
+use Rattle.format.specs.Format.{kind-of, record-length, each, fix-at, fix-from, fix-to, fix-bytes, all-bytes, header-bytes, record-bytes, length-field, kind-field, mark-field, count-field, fixes}
+use Rattle.format.specs.Laws.Numbers.{even, signed-low, signed-high, fix-parts, false-true}
+use Rattle.format.specs.Laws.Kinds.{IsKind, is-kind, kind-is, kind-of-is, one-more, longest}
 use Rattle.format.specs.Laws.Each.{length-each}
-use Rattle.format.specs.Laws.Stores.{length-bytes}
+use Rattle.format.specs.Laws.Stores.{length-bytes, sets-then}
 use Rattle.format.specs.Laws.Layout.{length-fix-bytes, length-header}
 
 -- ---- a number written and read again, wherever it stands
@@ -44,108 +47,129 @@ read-at : (b p r : List ℕ) (at size n : ℕ) → b ≡ p ++ (bytes-of size n +
 read-at b p r at size n e f h = rw (e, f) (read-bytes p r size n h)
 
 -- ---- two's complement, both ways
-pub record Coordinate (z : ℤ) : Type 0 where
-  pub small : unsigned 2 z < 65536
-  pub back : signed 2 (unsigned 2 z) ≡ z
+pub record Coordinate (width : ℕ) (z : ℤ) : Type 0 where
+  pub small : unsigned width z < 256 ^ width
+  pub back : signed width (unsigned width z) ≡ z
 
--- 16 bits signed
-pub coordinate : (z : ℤ) → SFits w16 z → Coordinate z
+pub coordinate : (width : ℕ) (z : ℤ) → 1 ≤ width → InBytes width z → Coordinate width z
 unfolding unsigned
-coordinate (pos n) f = let h : n < 32768 = f .sfits in record { small = omega arith; back = sym (signed-low n h) }
-coordinate (negsuc n) f =
-    let h : n < 32768 = f .sfits in
-    let e : 65535 - (65536 - suc n) ≡ n = omega arith in
-    record { small = omega arith; back = sym (signed-high (65536 - suc n) (omega arith) (omega arith)) ∙ rw e refl }
+coordinate width (pos n) w f = let h : 2 * n < 256 ^ width = f .in-bytes in record { small = omega arith; back = sym (signed-low width n h) }
+coordinate width (negsuc n) w f =
+    let h : 2 * n < 256 ^ width = f .in-bytes in
+    let g = even width w in
+    let e : 256 ^ width - 1 - (256 ^ width - suc n) ≡ n = omega arith in
+    record { small = omega arith; back = sym (signed-high width (256 ^ width - suc n) (omega arith) (omega arith)) ∙ rw e refl }
 
 -- ---- a fix
-pub record InRange (f : Fix) : Type 0 where
+pub record InRange (K : Kind) (f : Fix) : Type 0 where
   pub t32 : f .t < 4294967296
-  pub x16 : SFits w16 (f .x)
-  pub y16 : SFits w16 (f .y)
+  pub x-in : InBytes (K .width) (f .x)
+  pub y-in : InBytes (K .width) (f .y)
+
+-- a place within the kind's limit fits a fix's bytes
+pub bounded-in-bytes : (K : Kind) → IsKind K → (z : ℤ) → negℤ (pos (K .limit)) ≤ℤ z → z ≤ℤ pos (K .limit) → InBytes (K .width) z
+bounded-in-bytes K is (pos n) low high = record { in-bytes = let h : n ≤ K .limit = omega (arith, simp diffs at high) in omega (arith, h, is .inside) }
+bounded-in-bytes K is (negsuc n) low high = record { in-bytes = let h : n < K .limit = omega (arith, simp diffs at low) in omega (arith, h, is .inside) }
+
+pub bounded-in-range : (K : Kind) → IsKind K → {f : Fix} → f .t < 4294967296 → Bounded (K .limit) f → InRange K f
+bounded-in-range K is {f} t b = record { t32 = t; x-in = bounded-in-bytes K is (f .x) (b .x-low) (b .x-high); y-in = bounded-in-bytes K is (f .y) (b .y-low) (b .y-high) }
 
 -- its numbers have room in its bytes, ..
-pub record Storable (f : Fix) : Type 0 where
+pub record Storable (K : Kind) (f : Fix) : Type 0 where
   pub t-fits : f .t < 4294967296
-  pub x-fits : unsigned 2 (f .x) < 65536
-  pub y-fits : unsigned 2 (f .y) < 65536
+  pub x-fits : unsigned (K .width) (f .x) < 256 ^ K .width
+  pub y-fits : unsigned (K .width) (f .y) < 256 ^ K .width
 
 -- .. which then say it, but for a coordinate that isn't in range: of that two's complement says another
-abbrev pub said : Fix → Fix
-said f = record { t = f .t; x = signed 2 (unsigned 2 (f .x)); y = signed 2 (unsigned 2 (f .y)) }
+abbrev pub said-coordinate : Kind → ℤ → ℤ
+said-coordinate K z = signed (K .width) (unsigned (K .width) z)
 
-pub storable : (f : Fix) → InRange f → Storable f
-storable f h = record { t-fits = h .t32; x-fits = coordinate (f .x) (h .x16) .small; y-fits = coordinate (f .y) (h .y16) .small }
+abbrev pub said : Kind → Fix → Fix
+said K f = record { t = f .t; x = said-coordinate K (f .x); y = said-coordinate K (f .y) }
 
-pub said-itself : (f : Fix) → SFits w16 (f .x) → SFits w16 (f .y) → said f ≡ f
-said-itself f hx hy = rw (coordinate (f .x) hx .back, coordinate (f .y) hy .back) refl
+module _ (K : Kind) (is : IsKind K) where
+  pub storable : (f : Fix) → InRange K f → Storable K f
+  storable f h = record { t-fits = h .t32; x-fits = coordinate (K .width) (f .x) (is .some-width) (h .x-in) .small; y-fits = coordinate (K .width) (f .y) (is .some-width) (h .y-in) .small }
 
-read-fix : (p r : List ℕ) (k : ℕ) (f : Fix) → length p ≡ 10 + 8 * k → Storable f → fix-at trail (p ++ (fix-bytes trail f ++ r)) k ≡ said f
-unfolding fix-bytes
-read-fix p r k f len h =
-    let T = bytes-of 4 (f .t) in
-    let X = bytes-of 2 (unsigned 2 (f .x)) in
-    let Y = bytes-of 2 (unsigned 2 (f .y)) in
-    let b = p ++ ((T ++ (X ++ Y)) ++ r) in
-    let et : b ≡ p ++ (T ++ ((X ++ Y) ++ r)) = simp append-assoc in
-    let ex : b ≡ (p ++ T) ++ (X ++ (Y ++ r)) = simp append-assoc in
-    let ey : b ≡ ((p ++ T) ++ X) ++ (Y ++ r) = simp append-assoc in
-    let lt : length (p ++ T) ≡ 10 + 8 * k + 4 = length-append p T ∙ rw (len, length-bytes 4 (f .t)) refl in
-    let lx : length ((p ++ T) ++ X) ≡ 10 + 8 * k + 6 = length-append (p ++ T) X ∙ rw (lt, length-bytes 2 (unsigned 2 (f .x))) (omega arith) in
-    sym (fix-parts b k (f .t) (signed 2 (unsigned 2 (f .x))) (signed 2 (unsigned 2 (f .y)))
-    (sym (read-at b p _ (10 + 8 * k) 4 (f .t) et (sym len) (h .t-fits)))
-    (sym (ap (signed 2) (read-at b (p ++ T) _ (10 + 8 * k + 4) 2 (unsigned 2 (f .x)) ex (sym lt) (h .x-fits))))
-    (sym (ap (signed 2) (read-at b ((p ++ T) ++ X) _ (10 + 8 * k + 6) 2 (unsigned 2 (f .y)) ey (sym lx) (h .y-fits)))))
+  said-itself : (f : Fix) → InRange K f → said K f ≡ f
+  said-itself f h = rw (coordinate (K .width) (f .x) (is .some-width) (h .x-in) .back, coordinate (K .width) (f .y) (is .some-width) (h .y-in) .back) refl
 
--- ---- a list of fixes
-pub read-fixes : (p r : List ℕ) (k : ℕ) {l : List Fix} → length p ≡ 10 + 8 * k → All Storable l → each (fix-at trail (p ++ (all-bytes trail l ++ r))) k (length l) ≡ map said l
-unfolding each all-bytes
-read-fixes p r k len all-none = refl
-read-fixes p r k len (all-more {m = f} {l} h t) =
-    let F = fix-bytes trail f in
-    let M = all-bytes trail l in
-    let e : p ++ ((F ++ M) ++ r) ≡ p ++ (F ++ (M ++ r)) = simp append-assoc in
-    let g : p ++ ((F ++ M) ++ r) ≡ (p ++ F) ++ (M ++ r) = simp append-assoc in
-    let n : length (p ++ F) ≡ 10 + 8 * suc k = length-append p F ∙ rw (len, length-fix-bytes f) (omega arith) in
-    rw (ap (λ (b : List ℕ). fix-at trail b k) e ∙ read-fix p (M ++ r) k f len h, g) (ap (λ (m : List Fix). said f ∷ m) (read-fixes (p ++ F) r (suc k) n t))
+  pub all-said : {l : List Fix} → All (InRange K) l → map (said K) l ≡ l
+  all-said all-none = refl
+  all-said (all-more {m = f} {l} h t) = rw (said-itself f h, all-said t) refl
 
-pub all-said : {l : List Fix} → All InRange l → map said l ≡ l
-all-said all-none = refl
-all-said (all-more {m = f} {l} h t) = rw (said-itself f (h .x16) (h .y16), all-said t) refl
+  read-fix : (p r : List ℕ) (k : ℕ) (f : Fix) → length p ≡ record-length K k → Storable K f → fix-at K (p ++ (fix-bytes K f ++ r)) k ≡ said K f
+  unfolding fix-at fix-bytes fix-to
+  read-fix p r k f len h =
+      let w = K .width in
+      let at = record-length K k in
+      let T = bytes-of 4 (f .t) in
+      let X = bytes-of w (unsigned w (f .x)) in
+      let Y = bytes-of w (unsigned w (f .y)) in
+      let b = p ++ ((T ++ (X ++ Y)) ++ r) in
+      let et : b ≡ p ++ (T ++ ((X ++ Y) ++ r)) = simp append-assoc in
+      let ex : b ≡ (p ++ T) ++ (X ++ (Y ++ r)) = simp append-assoc in
+      let ey : b ≡ ((p ++ T) ++ X) ++ (Y ++ r) = simp append-assoc in
+      let lt : length (p ++ T) ≡ at + 4 = length-append p T ∙ rw (len, length-bytes 4 (f .t)) refl in
+      let lx : length ((p ++ T) ++ X) ≡ at + 4 + w = length-append (p ++ T) X ∙ rw (lt, length-bytes w (unsigned w (f .x))) refl in
+      sym (fix-parts w b at (f .t) (said-coordinate K (f .x)) (said-coordinate K (f .y))
+      (sym (read-at b p _ at 4 (f .t) et (sym len) (h .t-fits)))
+      (sym (ap (signed w) (read-at b (p ++ T) _ (at + 4) w (unsigned w (f .x)) ex (sym lt) (h .x-fits))))
+      (sym (ap (signed w) (read-at b ((p ++ T) ++ X) _ (at + 4 + w) w (unsigned w (f .y)) ey (sym lx) (h .y-fits)))))
+
+  -- ---- a list of fixes
+  pub read-fixes : (p r : List ℕ) (k : ℕ) {l : List Fix} → length p ≡ record-length K k → All (Storable K) l → each (fix-at K (p ++ (all-bytes K l ++ r))) k (length l) ≡ map (said K) l
+  unfolding each all-bytes
+  read-fixes p r k len all-none = refl
+  read-fixes p r k len (all-more {m = f} {l} h t) =
+      let F = fix-bytes K f in
+      let M = all-bytes K l in
+      let e : p ++ ((F ++ M) ++ r) ≡ p ++ (F ++ (M ++ r)) = simp append-assoc in
+      let g : p ++ ((F ++ M) ++ r) ≡ (p ++ F) ++ (M ++ r) = simp append-assoc in
+      let n : length (p ++ F) ≡ record-length K (suc k) = length-append p F ∙ rw (len, length-fix-bytes K is f, one-more K k) refl in
+      rw (ap (λ (b : List ℕ). fix-at K b k) e ∙ read-fix p (M ++ r) k f len h, g) (ap (λ (m : List Fix). said K f ∷ m) (read-fixes (p ++ F) r (suc k) n t))
 
 -- ---- a whole record, with other bytes after it
-pub record Reads (mark : ℕ) (l : List Fix) (b : List ℕ) : Type 0 where
-  pub length-reads : length-field b ≡ 10 + 8 * length l
-  pub kind-reads : kind-field b ≡ 1
+pub record Reads (K : Kind) (mark : ℕ) (l : List Fix) (b : List ℕ) : Type 0 where
+  pub length-reads : length-field b ≡ record-length K (length l)
+  pub code-reads : kind-field b ≡ K .code
+  pub kind-reads : kind-of b ≡ K
   pub mark-reads : mark-field b ≡ mark
   pub count-reads : count-field b ≡ length l
-  pub fixes-read : fixes trail b ≡ l
+  pub fixes-read : fixes b ≡ l
 
-pub read-record : (mark : ℕ) (l : List Fix) (r : List ℕ) → mark < 65536 → length l ≤ 4096 → All InRange l → Reads mark l (record-bytes trail mark l ++ r)
+pub read-record : (κ : CodeKind) (mark : ℕ) (l : List Fix) (r : List ℕ) → mark < 65536 → length l ≤ 4096 → All (InRange (layout κ)) l → Reads (layout κ) mark l (record-bytes (layout κ) mark l ++ r)
 unfolding record-bytes header-bytes
-read-record mark l r marked few h =
-    let L = bytes-of 4 (10 + 8 * length l) in
-    let K = bytes-of 2 1 in
+read-record κ mark l r marked few h =
+    let K = layout κ in
+    let is = is-kind κ in
+    let L = bytes-of 4 (record-length K (length l)) in
+    let D = bytes-of 2 (K .code) in
     let M = bytes-of 2 mark in
     let C = bytes-of 2 (length l) in
-    let F = all-bytes trail l in
-    let head = L ++ (K ++ (M ++ C)) in
+    let F = all-bytes K l in
+    let head = L ++ (D ++ (M ++ C)) in
     let b = (head ++ F) ++ r in
-    let el : b ≡ [] ++ (L ++ (((K ++ (M ++ C)) ++ F) ++ r)) = simp append-assoc in
-    let ek : b ≡ L ++ (K ++ (((M ++ C) ++ F) ++ r)) = simp append-assoc in
-    let em : b ≡ (L ++ K) ++ (M ++ ((C ++ F) ++ r)) = simp append-assoc in
-    let ec : b ≡ ((L ++ K) ++ M) ++ (C ++ (F ++ r)) = simp append-assoc in
+    let el : b ≡ [] ++ (L ++ (((D ++ (M ++ C)) ++ F) ++ r)) = simp append-assoc in
+    let ek : b ≡ L ++ (D ++ (((M ++ C) ++ F) ++ r)) = simp append-assoc in
+    let em : b ≡ (L ++ D) ++ (M ++ ((C ++ F) ++ r)) = simp append-assoc in
+    let ec : b ≡ ((L ++ D) ++ M) ++ (C ++ (F ++ r)) = simp append-assoc in
     let ef : b ≡ head ++ (F ++ r) = append-assoc head F r in
-    let nl : length L ≡ 4 = length-bytes 4 (10 + 8 * length l) in
-    let nk : length (L ++ K) ≡ 6 = length-append L K ∙ rw (nl, length-bytes 2 1) refl in
-    let nm : length ((L ++ K) ++ M) ≡ 8 = length-append (L ++ K) M ∙ rw (nk, length-bytes 2 mark) refl in
-    let nh : length head ≡ 10 = length-header mark (length l) in
-    let count : count-field b ≡ length l = read-at b ((L ++ K) ++ M) (F ++ r) 8 2 (length l) ec (sym nm) (omega arith) in
+    let nl : length L ≡ 4 = length-bytes 4 (record-length K (length l)) in
+    let nk : length (L ++ D) ≡ 6 = length-append L D ∙ rw (nl, length-bytes 2 (K .code)) refl in
+    let nm : length ((L ++ D) ++ M) ≡ 8 = length-append (L ++ D) M ∙ rw (nk, length-bytes 2 mark) refl in
+    let nh : length head ≡ 10 = length-header K mark (length l) in
+    let start : record-length K 0 ≡ 10 = rw mul-zero refl in
+    let code : kind-field b ≡ K .code = read-at b L _ 4 2 (K .code) ek (sym nl) (is .code-small) in
+    let count : count-field b ≡ length l = read-at b ((L ++ D) ++ M) (F ++ r) 8 2 (length l) ec (sym nm) (omega arith) in
     record {
-      length-reads = read-at b [] _ 0 4 (10 + 8 * length l) el refl (omega arith);
-      kind-reads = read-at b L _ 4 2 1 ek (sym nl) (omega arith);
-      mark-reads = read-at b (L ++ K) _ 6 2 mark em (sym nk) marked;
+      length-reads = read-at b [] _ 0 4 (record-length K (length l)) el refl (omega (arith, longest K is (length l) few));
+      code-reads = code;
+      kind-reads = kind-is κ b code;
+      mark-reads = read-at b (L ++ D) _ 6 2 mark em (sym nk) marked;
       count-reads = count;
-      fixes-read = ap (each (fix-at trail b) 0) count ∙ ap (λ (c : List ℕ). each (fix-at trail c) 0 (length l)) ef ∙ read-fixes head r 0 nh (all-map storable h) ∙ all-said h;
+      fixes-read = ap (λ (J : Kind). each (fix-at J b) 0 (count-field b)) (kind-is κ b code) ∙ ap (each (fix-at K b) 0) count ∙ ap (λ (c : List ℕ). each (fix-at K c) 0 (length l)) ef
+          ∙ read-fixes K is head r 0 (nh ∙ sym start) (all-map (storable K is) h) ∙ all-said K is h;
     }
 
 -- ---- THE OTHER WAY: bytes read and written again are the same bytes. Each is below 256, as a lent byte is.
@@ -186,83 +210,109 @@ write-number b at (suc size) h f =
     let high : (x + 256 * n) / 256 ≡ n = omega arith in
     rw (low, high, drop-cons b at 0 (omega arith)) (ap (λ (l : List ℕ). x ∷ l) (write-number b (suc at) size h (omega arith)))
 
-pub number-below : (b : List ℕ) (at : ℕ) → AreBytes b → number-at b at 2 < 65536
+-- a number of bytes is below 256 to the power of their number
+pub number-below : (b : List ℕ) (at size : ℕ) → AreBytes b → number-at b at size < 256 ^ size
 unfolding number-at
-number-below b at h = omega (arith, byte-at at h, byte-at (suc at) h)
+number-below b at zero h = omega arith
+number-below b at (suc size) h = rw (pow-suc 256 size) (omega (arith, byte-at at h, number-below b (suc at) size h))
 
-number-below-four : (b : List ℕ) (at : ℕ) → AreBytes b → number-at b at 4 < 4294967296
-unfolding number-at
-number-below-four b at h = omega (arith, byte-at at h, byte-at (suc at) h, byte-at (suc (suc at)) h, byte-at (suc (suc (suc at))) h)
+module _ (width n : ℕ) (w : 1 ≤ width) (h : n < 256 ^ width) where
+  signed-fits : InBytes width (signed width n)
+  signed-fits = go (test (256 ^ width) (2 * n))
+    where
+      go : {b : Bool} → Test (256 ^ width) (2 * n) b → InBytes width (signed width n)
+      go (holds t) = rw (← signed-high width n t h) (record { in-bytes = let e = even width w in omega arith })
+      go (fails t) = rw (← signed-low width n t) (record { in-bytes = t })
 
-signed-fits : (n : ℕ) → n < 65536 → SFits w16 (signed 2 n)
-signed-fits n h = go (test 32768 n)
-  where
-    go : {b : Bool} → Test 32768 n b → SFits w16 (signed 2 n)
-    go (holds t) = rw (← signed-high n t h) (record { sfits = omega arith })
-    go (fails t) = rw (← signed-low n t) (record { sfits = t })
-
-unsigned-back : (n : ℕ) → n < 65536 → unsigned 2 (signed 2 n) ≡ n
-unfolding unsigned
-unsigned-back n h = go (test 32768 n)
-  where
-    go : {b : Bool} → Test 32768 n b → unsigned 2 (signed 2 n) ≡ n
-    go (holds t) = rw (← signed-high n t h) (omega arith)
-    go (fails t) = rw (← signed-low n t) refl
+  unsigned-back : unsigned width (signed width n) ≡ n
+  unfolding unsigned
+  unsigned-back = go (test (256 ^ width) (2 * n))
+    where
+      go : {b : Bool} → Test (256 ^ width) (2 * n) b → unsigned width (signed width n) ≡ n
+      go (holds t) = rw (← signed-high width n t h) (omega arith)
+      go (fails t) = rw (← signed-low width n t) refl
 
 take-more : (b : List ℕ) (at m n : ℕ) → take m (drop at b) ++ take n (drop (at + m) b) ≡ take (m + n) (drop at b)
 take-more b at m n = sym (take-add m n (drop at b) ∙ rw (drop-drop m at b) refl)
 
-write-fix : (b : List ℕ) (k : ℕ) → AreBytes b → 10 + 8 * k + 8 ≤ length b → fix-bytes trail (fix-at trail b k) ≡ take 8 (drop (10 + 8 * k) b)
-unfolding fix-bytes fix-at
-write-fix b k h f =
-    let at = 10 + 8 * k in
-    rw (unsigned-back (number-at b (at + 4) 2) (number-below b (at + 4) h), unsigned-back (number-at b (at + 4 + 2) 2) (number-below b (at + 4 + 2) h))
-    (rw (write-number b at 4 h (omega arith), write-number b (at + 4) 2 h (omega arith), write-number b (at + 4 + 2) 2 h (omega arith))
-    (rw (take-more b (at + 4) 2 2, take-more b at 4 4) refl))
+module _ (K : Kind) (is : IsKind K) (b : List ℕ) (h : AreBytes b) where
+  pub write-fix : (k : ℕ) → record-length K (suc k) ≤ length b → fix-bytes K (fix-at K b k) ≡ take (K .size) (drop (record-length K k) b)
+  unfolding fix-bytes fix-to fix-at fix-from
+  write-fix k f =
+      let at = record-length K k in
+      let w = K .width in
+      let s = is .size-is in
+      let more = one-more K k in
+      let all : 4 + (w + w) ≡ K .size = omega arith in
+      rw (unsigned-back w (number-at b (at + 4) w) (is .some-width) (number-below b (at + 4) w h), unsigned-back w (number-at b (at + 4 + w) w) (is .some-width) (number-below b (at + 4 + w) w h))
+      (rw (write-number b at 4 h (omega arith), write-number b (at + 4) w h (omega arith), write-number b (at + 4 + w) w h (omega arith))
+      (rw (take-more b (at + 4) w w, take-more b at 4 (w + w), all) refl))
 
-write-fixes : (b : List ℕ) (k n : ℕ) → AreBytes b → 10 + 8 * k + 8 * n ≤ length b → all-bytes trail (each (fix-at trail b) k n) ≡ take (8 * n) (drop (10 + 8 * k) b)
-unfolding each all-bytes
-write-fixes b k zero h f = refl
-write-fixes b k (suc n) h f =
-    let next : 10 + 8 * suc k ≡ 10 + 8 * k + 8 = omega arith in
-    let all : 8 * suc n ≡ 8 + 8 * n = omega arith in
-    rw (write-fix b k h (omega arith), write-fixes b (suc k) n h (omega arith), next, take-more b (10 + 8 * k) 8 (8 * n), all) refl
+  write-fixes : (k n : ℕ) → record-length K k + K .size * n ≤ length b → all-bytes K (each (fix-at K b) k n) ≡ take (K .size * n) (drop (record-length K k) b)
+  unfolding each all-bytes
+  write-fixes k zero f = rw mul-zero refl
+  write-fixes k (suc n) f =
+      let next = one-more K k in
+      let all = mul-suc (K .size) n in
+      let comm : K .size * n + K .size ≡ K .size + K .size * n = omega arith in
+      rw (write-fix k (omega arith), write-fixes (suc k) n (omega arith), next, take-more b (record-length K k) (K .size) (K .size * n), all, comm) refl
 
-pub rewrites : (b : List ℕ) → AreBytes b → length-field b ≡ 10 + 8 * count-field b → kind-field b ≡ 1 → length-field b ≤ length b
-    → record-bytes trail (mark-field b) (fixes trail b) ≡ take (length-field b) b
+  -- what bytes say is in range
+  fix-in-range : (k : ℕ) → InRange K (fix-at K b k)
+  unfolding fix-at fix-from
+  fix-in-range k =
+      let at = record-length K k in
+      let w = K .width in
+      record { t32 = number-below b at 4 h; x-in = signed-fits w (number-at b (at + 4) w) (is .some-width) (number-below b (at + 4) w h); y-in = signed-fits w (number-at b (at + 4 + w) w) (is .some-width) (number-below b (at + 4 + w) w h) }
+
+  pub bytes-in-range : (k n : ℕ) → All (InRange K) (each (fix-at K b) k n)
+  unfolding each
+  bytes-in-range k zero = all-none
+  bytes-in-range k (suc n) = all-more (fix-in-range k) (bytes-in-range (suc k) n)
+
+pub rewrites : (b : List ℕ) → AreBytes b → length-field b ≡ record-length (kind-of b) (count-field b) → kind-field b ≡ kind-of b .code → length-field b ≤ length b
+    → record-bytes (kind-of b) (mark-field b) (fixes b) ≡ take (length-field b) b
 unfolding record-bytes header-bytes
 rewrites b h len kind whole =
+    let K = kind-of b in
     let n = count-field b in
-    let count : length (fixes trail b) ≡ n = length-each (fix-at trail b) 0 n in
-    let first : bytes-of 4 (10 + 8 * n) ≡ take 4 (drop 0 b) = rw (← len) (write-number b 0 4 h (omega arith)) in
-    let second : bytes-of 2 1 ≡ take 2 (drop 4 b) = rw (← kind) (write-number b 4 2 h (omega arith)) in
-    rw (count, first, second, write-number b 6 2 h (omega arith), write-number b 8 2 h (omega arith), write-fixes b 0 n h (omega arith), len)
-    (rw (take-more b 6 2 2, take-more b 4 2 4, take-more b 0 4 6, take-more b 0 10 (8 * n)) refl)
+    let count : length (fixes b) ≡ n = length-each (fix-at K b) 0 n in
+    let first : bytes-of 4 (record-length K n) ≡ take 4 (drop 0 b) = rw (← len) (write-number b 0 4 h (omega arith)) in
+    let second : bytes-of 2 (K .code) ≡ take 2 (drop 4 b) = rw (← kind) (write-number b 4 2 h (omega arith)) in
+    let start : record-length K 0 ≡ 10 = rw mul-zero refl in
+    rw (count, first, second, write-number b 6 2 h (omega arith), write-number b 8 2 h (omega arith), write-fixes K (kind-of-is b) b h 0 n (omega arith), len)
+    (rw (start, take-more b 6 2 2, take-more b 4 2 4, take-more b 0 4 6, take-more b 0 10 (K .size * n)) refl)
 
--- what bytes say is in range, ..
-fix-in-range : (b : List ℕ) (k : ℕ) → AreBytes b → InRange (fix-at trail b k)
-unfolding fix-at
-fix-in-range b k h =
-    let at = 10 + 8 * k in
-    record { t32 = number-below-four b at h; x16 = signed-fits (number-at b (at + 4) 2) (number-below b (at + 4) h); y16 = signed-fits (number-at b (at + 4 + 2) 2) (number-below b (at + 4 + 2) h) }
+-- ---- bytes moved as they are, four at a time: what was read from `from` on is put down from `to` on
+module _ (b : List ℕ) (from to : ℕ) (h : AreBytes b) where
+  read-eight : {m n : ℕ} → from + 8 ≤ length b → m ≡ number-at b from 4 → n ≡ number-at b (from + 4) 4 → bytes-of 4 m ++ bytes-of 4 n ≡ take 8 (drop from b)
+  read-eight whole p q = rw (p, q, write-number b from 4 h (omega arith), write-number b (from + 4) 4 h (omega arith)) (take-more b from 4 4)
 
-pub bytes-in-range : (b : List ℕ) (k n : ℕ) → AreBytes b → All InRange (each (fix-at trail b) k n)
-unfolding each
-bytes-in-range b k zero h = all-none
-bytes-in-range b k (suc n) h = all-more (fix-in-range b k h) (bytes-in-range b (suc k) n h)
+  pub eight-moved : (m n : ℕ) → from + 8 ≤ length b → m ≡ number-at b from 4 → n ≡ number-at b (from + 4) 4
+      → sets (sets b to (bytes-of 4 m)) (to + 4) (bytes-of 4 n) ≡ sets b to (take 8 (drop from b))
+  eight-moved m n whole p q = sets-then b to (bytes-of 4 m) (to + 4) (bytes-of 4 n) (rw (length-bytes 4 m) refl) ∙ rw (read-eight whole p q) refl
 
--- .. and what is written are bytes
+  pub twelve-moved : (m n o : ℕ) → from + 12 ≤ length b → m ≡ number-at b from 4 → n ≡ number-at b (from + 4) 4 → o ≡ number-at b (from + 8) 4
+      → sets (sets (sets b to (bytes-of 4 m)) (to + 4) (bytes-of 4 n)) (to + 8) (bytes-of 4 o) ≡ sets b to (take 12 (drop from b))
+  twelve-moved m n o whole p q r =
+      let eight = read-eight {m = m} {n = n} (omega arith) p q in
+      let size : length (bytes-of 4 m ++ bytes-of 4 n) ≡ 8 = length-append (bytes-of 4 m) (bytes-of 4 n) ∙ rw (length-bytes 4 m, length-bytes 4 n) refl in
+      let all : (bytes-of 4 m ++ bytes-of 4 n) ++ bytes-of 4 o ≡ take 12 (drop from b) = rw (eight, r, write-number b (from + 8) 4 h (omega arith)) (take-more b from 8 4) in
+      rw (sets-then b to (bytes-of 4 m) (to + 4) (bytes-of 4 n) (rw (length-bytes 4 m) refl))
+      (sets-then b to (bytes-of 4 m ++ bytes-of 4 n) (to + 8) (bytes-of 4 o) (rw size refl) ∙ rw all refl)
+
+-- what is written are bytes
 bytes-are : (size n : ℕ) → AreBytes (bytes-of size n)
 unfolding bytes-of
 bytes-are zero n = all-none
 bytes-are (suc size) n = all-more {m = n % 256} (omega arith) (bytes-are size (n / 256))
 
-pub fixes-are-bytes : (l : List Fix) → AreBytes (all-bytes trail l)
-unfolding all-bytes fix-bytes
-fixes-are-bytes [] = all-none
-fixes-are-bytes (f ∷ l) = all-append (all-append (bytes-are 4 (f .t)) (all-append (bytes-are 2 (unsigned 2 (f .x))) (bytes-are 2 (unsigned 2 (f .y))))) (fixes-are-bytes l)
+pub fixes-are-bytes : (K : Kind) (l : List Fix) → AreBytes (all-bytes K l)
+unfolding all-bytes fix-bytes fix-to
+fixes-are-bytes K [] = all-none
+fixes-are-bytes K (f ∷ l) = all-append (all-append (bytes-are 4 (f .t)) (all-append (bytes-are (K .width) (unsigned (K .width) (f .x))) (bytes-are (K .width) (unsigned (K .width) (f .y))))) (fixes-are-bytes K l)
 
-pub record-are-bytes : (mark : ℕ) (l : List Fix) → AreBytes (record-bytes trail mark l)
+pub record-are-bytes : (K : Kind) (mark : ℕ) (l : List Fix) → AreBytes (record-bytes K mark l)
 unfolding record-bytes header-bytes
-record-are-bytes mark l =
-    all-append (all-append (bytes-are 4 (10 + 8 * length l)) (all-append (bytes-are 2 1) (all-append (bytes-are 2 mark) (bytes-are 2 (length l))))) (fixes-are-bytes l)
+record-are-bytes K mark l =
+    all-append (all-append (bytes-are 4 (record-length K (length l))) (all-append (bytes-are 2 (K .code)) (all-append (bytes-are 2 mark) (bytes-are 2 (length l))))) (fixes-are-bytes K l)

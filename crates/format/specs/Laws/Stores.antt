@@ -1,14 +1,15 @@
 -- Runs of stores (`sets` of the library): one after another, what stands beyond them, and numbers stored and read again.
 use mathlib.Core.Path.{_≡_, refl, _∙_, ap}
 use mathlib.Core.List.{List, [], _∷_, _++_}
-use Prim.Native.Nat.{ℕ, zero, suc, _+_, _*_, _/_, _%_, _<_, _≤_}
+use Prim.Native.Nat.{ℕ, zero, suc, _+_, _/_, _%_, _<_, _≤_}
 use native.Mathlib.Numerals.{add-one, add-two, add-three}
 use native.Mathlib.Omega.{arith}
 use lib.ListN.{length, getD, drop, set}
 use lib.Seq.{sets, sets-eq, getD-set-other}
 use Rattle.distance.specs.Fix.{Fix}
 use Rattle.format.specs.Bytes.{number-at, bytes-of, unsigned}
-use Rattle.format.specs.Format.{trail, fix-bytes, header-bytes}
+use Rattle.format.specs.Kinds.{Kind}
+use Rattle.format.specs.Format.{record-length, fix-to, header-bytes}
 
 -- a run that follows on a run is one run
 pub sets-append : (b : List ℕ) (at : ℕ) (l m : List ℕ) → sets (sets b at l) (at + length l) m ≡ sets b at (l ++ m)
@@ -61,20 +62,21 @@ pub sets-then : (b : List ℕ) (at : ℕ) (l : List ℕ) (i : ℕ) (m : List ℕ
 sets-then b at l i m e = rw e (sets-append b at l m)
 
 -- a fix, and a record's head, field by field
-pub fix-stores : (b : List ℕ) (at : ℕ) (f : Fix)
-    → sets (sets (sets b at (bytes-of 4 (f .t))) (at + 4) (bytes-of 2 (unsigned 2 (f .x)))) (at + 6) (bytes-of 2 (unsigned 2 (f .y))) ≡ sets b at (fix-bytes trail f)
-unfolding fix-bytes
-fix-stores b at f =
-    let x = bytes-of 2 (unsigned 2 (f .x)) in
-    let y = bytes-of 2 (unsigned 2 (f .y)) in
-    sets-then (sets b at (bytes-of 4 (f .t))) (at + 4) x (at + 6) y (rw (length-bytes 2 (unsigned 2 (f .x))) (omega arith))
+pub fix-stores : (width : ℕ) (b : List ℕ) (at at-y : ℕ) (f : Fix) → at-y ≡ at + 4 + width
+    → sets (sets (sets b at (bytes-of 4 (f .t))) (at + 4) (bytes-of width (unsigned width (f .x)))) at-y (bytes-of width (unsigned width (f .y))) ≡ sets b at (fix-to width f)
+unfolding fix-to
+fix-stores width b at at-y f e =
+    let x = bytes-of width (unsigned width (f .x)) in
+    let y = bytes-of width (unsigned width (f .y)) in
+    sets-then (sets b at (bytes-of 4 (f .t))) (at + 4) x at-y y (rw (length-bytes width (unsigned width (f .x))) e)
     ∙ sets-then b at (bytes-of 4 (f .t)) (at + 4) (x ++ y) (rw (length-bytes 4 (f .t)) refl)
 
-pub head-stores : (b : List ℕ) (mark n : ℕ)
-    → sets (sets (sets (sets b 0 (bytes-of 4 (10 + 8 * n))) 4 (bytes-of 2 1)) 6 (bytes-of 2 mark)) 8 (bytes-of 2 n) ≡ sets b 0 (header-bytes trail mark n)
+pub head-stores : (K : Kind) (b : List ℕ) (mark n : ℕ)
+    → sets (sets (sets (sets b 0 (bytes-of 4 (record-length K n))) 4 (bytes-of 2 (K .code))) 6 (bytes-of 2 mark)) 8 (bytes-of 2 n) ≡ sets b 0 (header-bytes K mark n)
 unfolding header-bytes
-head-stores b mark n =
-    let l = bytes-of 4 (10 + 8 * n) in
-    sets-then (sets (sets b 0 l) 4 (bytes-of 2 1)) 6 (bytes-of 2 mark) 8 (bytes-of 2 n) (rw (length-bytes 2 mark) refl)
-    ∙ sets-then (sets b 0 l) 4 (bytes-of 2 1) 6 (bytes-of 2 mark ++ bytes-of 2 n) (rw (length-bytes 2 1) refl)
-    ∙ sets-then b 0 l 4 (bytes-of 2 1 ++ (bytes-of 2 mark ++ bytes-of 2 n)) (rw (length-bytes 4 (10 + 8 * n)) refl)
+head-stores K b mark n =
+    let l = bytes-of 4 (record-length K n) in
+    let c = bytes-of 2 (K .code) in
+    sets-then (sets (sets b 0 l) 4 c) 6 (bytes-of 2 mark) 8 (bytes-of 2 n) (rw (length-bytes 2 mark) refl)
+    ∙ sets-then (sets b 0 l) 4 c 6 (bytes-of 2 mark ++ bytes-of 2 n) (rw (length-bytes 2 (K .code)) refl)
+    ∙ sets-then b 0 l 4 (c ++ (bytes-of 2 mark ++ bytes-of 2 n)) (rw (length-bytes 4 (record-length K n)) refl)

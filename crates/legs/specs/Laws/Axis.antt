@@ -8,8 +8,10 @@ use native.Mathlib.Omega.{arith}
 use borrow.Author.Tests.{lt-ltb, le-ltb}
 use Rattle.distance.specs.Place.{Time}
 use Rattle.distance.specs.Integers.Tests.{Test, holds, fails, test}
+use Rattle.legs.specs.declared.Fraction.{Fraction}
+use Rattle.legs.specs.declared.Times.{Times}
 use Rattle.legs.specs.Legs.{times, no-times, moving, axis-times}
-use Rattle.legs.specs.Laws.Times.{OfTimes, Sound, Cuts}
+use Rattle.legs.specs.Laws.Times.{OfTimes, Each, Sound, Cuts}
 
 -- u is on the leg that begins at A and takes D seconds
 pub record On (A D : ℕ) (u : Time) : Type 0 where
@@ -42,19 +44,33 @@ module _ (x y z m s : ℕ) where
   fall-high : y ≤ x → x * m + y * s ≤ z * m + x * s ↔ (x - z) * m ≤ (x - y) * s
   fall-high h = let e = mul-sub m x z in let f = mul-sub s x y in let g = mul-le-mul-left s h in ((λ k. omega arith), (λ k. omega arith))
 
-unit : (n m : ℕ) → Sound (times n m 1)
-unit n m = record { first-some = omega arith; last-some = omega arith; small = omega arith }
+-- ---- the cases: what holds of the times of each holds of the axis's
+pub axis-cases : (Q : Times → Type 0) (A D a b low high : ℕ) → (a ≤ b → high < a → Q no-times) → (b ≤ a → a < low → Q no-times)
+    → (a < b → a ≤ high → Q (moving A D (b - a) (low - a) (high - a))) → (b < a → low ≤ a → Q (moving A D (a - b) (a - high) (a - low)))
+    → (a ≡ b → low ≤ a → a ≤ high → Q (times A (A + D) 1)) → Q (axis-times A D a b low high)
+unfolding axis-times
+axis-cases Q A D a b low high leaves-up leaves-down up down rests = go (test (suc a) b) (test (suc high) a) (test (suc a) low) (test (suc b) a)
+  where
+    go : {p q r s : Bool} → Test (suc a) b p → Test (suc high) a q → Test (suc a) low r → Test (suc b) a s
+        → Q (cond p (cond q no-times (moving A D (b - a) (low - a) (high - a))) (cond r no-times (cond s (moving A D (a - b) (a - high) (a - low)) (cond q no-times (times A (A + D) 1)))))
+    go (holds g) (holds h) k l = leaves-up (omega arith) (omega arith)
+    go (holds g) (fails h) k l = up (omega arith) (omega arith)
+    go (fails g) h (holds k) l = leaves-down (omega arith) (omega arith)
+    go (fails g) h (fails k) (holds l) = down (omega arith) (omega arith)
+    go (fails g) (holds h) (fails k) (fails l) = leaves-up (omega arith) (omega arith)
+    go (fails g) (fails h) (fails k) (fails l) = rests (omega arith) (omega arith) (omega arith)
 
-over : (n m d : ℕ) → 1 ≤ d → d ≤ 32000 → Sound (times n m d)
-over n m d h k = record { first-some = h; last-some = h; small = k }
+-- ---- the times of each
+over : (n m d : ℕ) → 1 ≤ d → Sound (times n m d)
+over n m d h = record { of-first = h; of-last = h }
 
-module _ (A D a b low high : ℕ) (small-a : a ≤ 32000) (small-b : b ≤ 32000) where
+module _ (A D a b low high : ℕ) where
   -- rising
   rising : a < b → a ≤ high → Cuts (On A D) (Mid A D a b low high) (moving A D (b - a) (low - a) (high - a))
   rising g h =
       let le : a ≤ b = omega arith in
       record {
-        sound = over _ _ (b - a) (omega arith) (omega arith);
+        sound = over _ _ (b - a) (omega arith);
         only = (λ u o w.
             let s = u .p - A * u .q in
             record {
@@ -73,7 +89,7 @@ module _ (A D a b low high : ℕ) (small-a : a ≤ 32000) (small-b : b ≤ 32000
   falling g h =
       let le : b ≤ a = omega arith in
       record {
-        sound = over _ _ (a - b) (omega arith) (omega arith);
+        sound = over _ _ (a - b) (omega arith);
         only = (λ u o w.
             let s = u .p - A * u .q in
             record {
@@ -91,7 +107,7 @@ module _ (A D a b low high : ℕ) (small-a : a ≤ 32000) (small-b : b ≤ 32000
   -- at rest between the edges: the whole leg
   resting : a ≡ b → low ≤ a → a ≤ high → Cuts (On A D) (Mid A D a b low high) (times A (A + D) 1)
   resting e g h = record {
-    sound = unit A (A + D);
+    sound = over A (A + D) 1 (omega arith);
     only = (λ u o w. record { from = omega (arith, o .from); until = omega (arith, o .to) });
     all = (λ u o w. record {
       above = omega (arith, mul-le-mul-right (D * u .q) g, mul-le-mul-right {m = a} {n = b} (u .p - A * u .q) (omega arith));
@@ -103,32 +119,20 @@ module _ (A D a b low high : ℕ) (small-a : a ≤ 32000) (small-b : b ≤ 32000
   module _ (t : 1 ≤ D) where
     none-above : a ≤ b → high < a → Cuts (On A D) (Mid A D a b low high) no-times
     none-above g h = record {
-      sound = unit 1 0;
+      sound = over 1 0 1 (omega arith);
       only = (λ u o w. absurd (omega (arith, mul-le-mul-right (D * u .q) h, mul-le-mul-right (u .p - A * u .q) g, mul-le-mul t (u .whole), w .below)));
       all = (λ u o w. absurd (omega (arith, w .from, w .until, u .whole)));
     }
 
     none-below : b ≤ a → a < low → Cuts (On A D) (Mid A D a b low high) no-times
     none-below g h = record {
-      sound = unit 1 0;
+      sound = over 1 0 1 (omega arith);
       only = (λ u o w. absurd (omega (arith, mul-le-mul-right (D * u .q) h, mul-le-mul-right (u .p - A * u .q) g, mul-le-mul t (u .whole), w .above)));
       all = (λ u o w. absurd (omega (arith, w .from, w .until, u .whole)));
     }
 
     pub axis-cut : Cuts (On A D) (Mid A D a b low high) (axis-times A D a b low high)
-    unfolding axis-times
-    axis-cut = go (test (suc a) b) (test (suc high) a) (test (suc a) low) (test (suc b) a)
-      where
-        go : {p q r s : Bool} → Test (suc a) b p → Test (suc high) a q → Test (suc a) low r → Test (suc b) a s
-            → Cuts (On A D) (Mid A D a b low high)
-            (cond p (cond q no-times (moving A D (b - a) (low - a) (high - a)))
-            (cond r no-times (cond s (moving A D (a - b) (a - high) (a - low)) (cond q no-times (times A (A + D) 1)))))
-        go (holds g) (holds h) k l = none-above (omega arith) (omega arith)
-        go (holds g) (fails h) k l = rising (omega arith) (omega arith)
-        go (fails g) h (holds k) l = none-below (omega arith) (omega arith)
-        go (fails g) h (fails k) (holds l) = falling (omega arith) (omega arith)
-        go (fails g) (holds h) (fails k) (fails l) = none-above (omega arith) (omega arith)
-        go (fails g) (fails h) (fails k) (fails l) = resting (omega arith) (omega arith) (omega arith)
+    axis-cut = axis-cases (Cuts (On A D) (Mid A D a b low high)) A D a b low high none-above none-below rising falling resting
 
 -- ---- a lone fix: a leg of no seconds, at rest
 pub record Rests (a low high : ℕ) (u : Time) : Type 0 where
@@ -136,26 +140,30 @@ pub record Rests (a low high : ℕ) (u : Time) : Type 0 where
   pub below : a ≤ high
 
 pub rest-cut : (A a low high : ℕ) → Cuts (On A 0) (Rests a low high) (axis-times A 0 a a low high)
-unfolding axis-times
-rest-cut A a low high = go (test (suc a) a) (test (suc high) a) (test (suc a) low)
+rest-cut A a low high = axis-cases (Cuts (On A 0) (Rests a low high)) A 0 a a low high
+    (λ g h. record { sound = over 1 0 1 (omega arith); only = (λ u o w. absurd (omega (arith, w .below))); all = (λ u o w. absurd (nothing u w)) })
+    (λ g h. record { sound = over 1 0 1 (omega arith); only = (λ u o w. absurd (omega (arith, w .above))); all = (λ u o w. absurd (nothing u w)) })
+    (λ g h. absurd (omega arith))
+    (λ g h. absurd (omega arith))
+    (λ e g h. record {
+      sound = over A (A + 0) 1 (omega arith);
+      only = (λ u o w. record { from = omega (arith, o .from); until = omega (arith, o .to) });
+      all = (λ u o w. record { above = g; below = h });
+    })
   where
     nothing : (u : Time) → OfTimes no-times u → ⊥
     nothing u w = omega (arith, w .from, w .until, u .whole)
 
-    go : {p q r : Bool} → Test (suc a) a p → Test (suc high) a q → Test (suc a) low r
-        → Cuts (On A 0) (Rests a low high)
-        (cond p (cond q no-times (moving A 0 (a - a) (low - a) (high - a)))
-        (cond r no-times (cond p (moving A 0 (a - a) (a - high) (a - low)) (cond q no-times (times A (A + 0) 1)))))
-    go (holds g) h k = absurd (omega arith)
-    go (fails g) h (holds k) = record { sound = unit 1 0; only = (λ u o w. absurd (omega (arith, w .above))); all = (λ u o w. absurd (nothing u w)) }
-    go (fails g) (holds h) (fails k) = record { sound = unit 1 0; only = (λ u o w. absurd (omega (arith, w .below))); all = (λ u o w. absurd (nothing u w)) }
-    go (fails g) (fails h) (fails k) = record {
-      sound = unit A (A + 0);
-      only = (λ u o w. record { from = omega (arith, o .from); until = omega (arith, o .to) });
-      all = (λ u o w. record { above = omega arith; below = omega arith });
-    }
+-- ---- THE DENOMINATOR: no more than the places are apart, or 1
+pub axis-over : (A D a b low high top : ℕ) → 1 ≤ top → b - a ≤ top → a - b ≤ top → Each (λ (f : Fraction). f .den ≤ top) (axis-times A D a b low high)
+axis-over A D a b low high top one up down = axis-cases (Each (λ (f : Fraction). f .den ≤ top)) A D a b low high
+    (λ g h. record { of-first = one; of-last = one })
+    (λ g h. record { of-first = one; of-last = one })
+    (λ g h. record { of-first = up; of-last = up })
+    (λ g h. record { of-first = down; of-last = down })
+    (λ e g h. record { of-first = one; of-last = one })
 
--- ---- the cases, computed
+-- ---- each case, computed
 module _ (A D a b low high : ℕ) where
   pub axis-leaving-up : a < b → high < a → axis-times A D a b low high ≡ no-times
   unfolding axis-times

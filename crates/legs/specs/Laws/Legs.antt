@@ -1,20 +1,21 @@
--- One leg of a trail, from the places over ℤ to those counted from −16,000 on: the times of the window at which it is in the box.
+-- One leg of a trail, from the places over ℤ to those counted from −160,000 on: the times of the window at which it is in the box.
 use mathlib.Core.Path.{_≡_, _∙_, ap}
 use Prim.Native.Nat.{ℕ, _+_, _*_, _-_, _≤_, _<_}
 use native.Mathlib.Nat.{mul-le-mul-right}
 use native.Mathlib.Omega.{arith}
-use lib.IntN.{ℤ, pos, negsuc, natAbs, _+ℤ_, _-ℤ_, _*ℤ_}
+use lib.IntN.{ℤ, pos, natAbs, negℤ, _+ℤ_, _-ℤ_, _*ℤ_}
 use lib.Signed.{_≤ℤ_}
-use Rattle.distance.specs.Fix.{Fix, Bounded}
+use Rattle.distance.specs.Fix.{Fix, Bounded, widest}
 use Rattle.distance.specs.Distance.{seconds}
 use Rattle.distance.specs.Place.{Time, Place, own, leg, interpolated}
 use Rattle.distance.specs.Box.{Box, In}
 use Rattle.distance.specs.Integers.Differences.{diff, diffs, split}
+use Rattle.legs.specs.declared.Fraction.{Fraction}
 use Rattle.legs.specs.declared.Raised.{Raised}
 use Rattle.legs.specs.declared.Frame.{Frame}
-use Rattle.legs.specs.Legs.{times, leg-times, leg-first, offset-of, raised, framed}
-use Rattle.legs.specs.Laws.Times.{Cuts, Exactly, Said, narrow, same-times, meet, said-first, said-as}
-use Rattle.legs.specs.Laws.Axis.{On, Mid, Rests, axis-cut, rest-cut}
+use Rattle.legs.specs.Legs.{times, axis-times, leg-times, leg-first, offset-of, raised, framed}
+use Rattle.legs.specs.Laws.Times.{Each, Cuts, Exactly, Said, IfSome, narrow, same-times, both-each, meet, said-first, said-as, first-each}
+use Rattle.legs.specs.Laws.Axis.{On, Mid, Rests, axis-cut, rest-cut, axis-over}
 
 -- ---- the window, and the leg itself
 pub record Open (w v : ℕ) (u : Time) : Type 0 where
@@ -23,37 +24,33 @@ pub record Open (w v : ℕ) (u : Time) : Type 0 where
 
 on-leg : (A D : ℕ) → Exactly (On A D) (times A (A + D) 1)
 on-leg A D = record {
-  sound = record { first-some = omega arith; last-some = omega arith; small = omega arith };
+  sound = record { of-first = omega arith; of-last = omega arith };
   only = (λ u o. record { from = omega (arith, o .from); until = omega (arith, o .to) });
   all = (λ u w. record { from = omega (arith, w .from); to = omega (arith, w .until) });
 }
 
 in-window : (A D w v : ℕ) → Cuts (On A D) (Open w v) (times w v 1)
 in-window A D w v = record {
-  sound = record { first-some = omega arith; last-some = omega arith; small = omega arith };
+  sound = record { of-first = omega arith; of-last = omega arith };
   only = (λ u o s. record { from = omega (arith, s .opened); until = omega (arith, s .closed) });
   all = (λ u o s. record { opened = omega (arith, s .from); closed = omega (arith, s .until) });
 }
 
--- ---- the leg from a to b, of places from 0 to 32,000
-pub record Low (a : Raised) : Type 0 where
-  pub x : a .x .0 ≤ 32000
-  pub y : a .y .0 ≤ 32000
-
+-- ---- the leg from a to b
 pub record Hit (a b : Raised) (f : Frame) (w v : ℕ) (u : Time) : Type 0 where
   pub on : On (a .t .0) (b .t .0 - a .t .0) u
   pub window : Open w v u
   pub in-x : Mid (a .t .0) (b .t .0 - a .t .0) (a .x .0) (b .x .0) (f .left .0) (f .right .0) u
   pub in-y : Mid (a .t .0) (b .t .0 - a .t .0) (a .y .0) (b .y .0) (f .bottom .0) (f .top .0) u
 
-pub leg-said : (a b : Raised) (f : Frame) (w v : ℕ) → Low a → Low b → a .t .0 < b .t .0 → Said (Hit a b f w v) (leg-first a b f w v)
+pub leg-said : (a b : Raised) (f : Frame) (w v : ℕ) → a .t .0 < b .t .0 → Said (Hit a b f w v) (leg-first a b f w v)
 unfolding leg-first leg-times
-leg-said a b f w v la lb r =
+leg-said a b f w v r =
     let A = a .t .0 in
     let D = b .t .0 - a .t .0 in
     let e1 = meet (on-leg A D) (in-window A D w v) in
-    let e2 = meet e1 (narrow (λ u z. z .0) (axis-cut A D (a .x .0) (b .x .0) (f .left .0) (f .right .0) (la .x) (lb .x) (omega arith))) in
-    let e3 = meet e2 (narrow (λ u z. z .0 .0) (axis-cut A D (a .y .0) (b .y .0) (f .bottom .0) (f .top .0) (la .y) (lb .y) (omega arith))) in
+    let e2 = meet e1 (narrow (λ u z. z .0) (axis-cut A D (a .x .0) (b .x .0) (f .left .0) (f .right .0) (omega arith))) in
+    let e3 = meet e2 (narrow (λ u z. z .0 .0) (axis-cut A D (a .y .0) (b .y .0) (f .bottom .0) (f .top .0) (omega arith))) in
     said-first (same-times (λ u z. record { on = z .0 .0 .0; window = z .0 .0 .1; in-x = z .0 .1; in-y = z .1 }) (λ u z. (((z .on, z .window), z .in-x), z .in-y)) e3)
 
 -- ---- a lone fix
@@ -73,38 +70,35 @@ alone-said a f w v =
     let e3 = meet e2 (narrow (λ u z. z .0 .0) (rest-cut A (a .y .0) (f .bottom .0) (f .top .0))) in
     rw none-gone (said-first (same-times (λ u z. record { on = z .0 .0 .0; window = z .0 .0 .1; in-x = z .0 .1; in-y = z .1 }) (λ u z. (((z .on, z .window), z .in-x), z .in-y)) e3))
 
--- ---- places counted from −16,000 on
-pub record InLimit (z : ℤ) : Type 0 where
-  pub low : negsuc 15999 ≤ℤ z
-  pub high : z ≤ℤ pos 16000
+-- ---- places counted from −160,000 on
+pub record InWidest (z : ℤ) : Type 0 where
+  pub low : negℤ (pos widest) ≤ℤ z
+  pub high : z ≤ℤ pos widest
 
 pub record Counts (z : ℤ) (n : ℕ) : Type 0 where
-  pub is : z ≡ diff n 16000
-  pub small : n ≤ 32000
+  pub is : z ≡ diff n widest
+  pub small : n ≤ 2 * widest
 
-counts-nat : (a b : ℕ) → b ≤ a + 16000 → natAbs (diff a b +ℤ pos 16000) ≡ a + 16000 - b
-counts-nat a b h = let e : diff a b +ℤ pos 16000 ≡ pos (a + 16000 - b) = simp diffs (omega arith) in ap natAbs e
+counts-nat : (a b : ℕ) → b ≤ a + widest → natAbs (diff a b +ℤ pos widest) ≡ a + widest - b
+counts-nat a b h = let e : diff a b +ℤ pos widest ≡ pos (a + widest - b) = simp diffs (omega arith) in ap natAbs e
 
-pub counts : (z : ℤ) → InLimit z → Counts z (offset-of 16000 z)
+pub counts : (z : ℤ) → InWidest z → Counts z (offset-of z)
 counts z h = split z (λ a b p.
-    let l : b ≤ a + 16000 = omega (arith, simp (p, diffs) at (h .low)) in
-    let g : a ≤ b + 16000 = omega (arith, simp (p, diffs) at (h .high)) in
+    let l : b ≤ a + widest = omega (arith, simp (p, diffs) at (h .low)) in
+    let g : a ≤ b + widest = omega (arith, simp (p, diffs) at (h .high)) in
     rw (p, counts-nat a b l) (record { is = simp diffs (omega arith); small = omega arith }))
 
-pub record BoxInLimit (b : Box) : Type 0 where
-  pub x-low : InLimit (b .x-low)
-  pub x-high : InLimit (b .x-high)
-  pub y-low : InLimit (b .y-low)
-  pub y-high : InLimit (b .y-high)
+pub record BoxInWidest (b : Box) : Type 0 where
+  pub x-low : InWidest (b .x-low)
+  pub x-high : InWidest (b .x-high)
+  pub y-low : InWidest (b .y-low)
+  pub y-high : InWidest (b .y-high)
 
-placed-x : {a : Fix} → Bounded 16000 a → InLimit (a .x)
+pub placed-x : {a : Fix} → Bounded widest a → InWidest (a .x)
 placed-x h = record { low = h .x-low; high = h .x-high }
 
-placed-y : {a : Fix} → Bounded 16000 a → InLimit (a .y)
+pub placed-y : {a : Fix} → Bounded widest a → InWidest (a .y)
 placed-y h = record { low = h .y-low; high = h .y-high }
-
-pub low-raised : (z : ℕ) (a : Fix) → Bounded 16000 a → Low (raised 16000 z a)
-low-raised z a h = record { x = counts (a .x) (placed-x h) .small; y = counts (a .y) (placed-y h) .small }
 
 -- one axis of a place over ℤ is between its edges just if it is so counted
 module _ {i j lo hi : ℤ} {I J L H : ℕ} (ci : Counts i I) (cj : Counts j J) (cl : Counts lo L) (ch : Counts hi H) (m s : ℕ) where
@@ -155,14 +149,14 @@ pub record LegIn (z : ℕ) (box : Box) (w v : ℕ) (a b : Fix) (u : Time) : Type
   pub window : Open w v u
   pub inside : In box (leg a b (absolute z u))
 
-module _ (z : ℕ) (box : Box) (w v : ℕ) (a b : Fix) (base : z ≤ a .t) (rises : a .t < b .t) (pa : Bounded 16000 a) (pb : Bounded 16000 b) (nb : BoxInLimit box) where
+module _ (z : ℕ) (box : Box) (w v : ℕ) (a b : Fix) (base : z ≤ a .t) (rises : a .t < b .t) (pa : Bounded widest a) (pb : Bounded widest b) (nb : BoxInWidest box) where
   abbrev A : ℕ
   A = a .t - z
 
   abbrev D : ℕ
   D = b .t - z - (a .t - z)
 
-  hit-out : (u : Time) → Hit (raised 16000 z a) (raised 16000 z b) (framed 16000 box) w v u → LegIn z box w v a b u
+  hit-out : (u : Time) → Hit (raised z a) (raised z b) (framed box) w v u → LegIn z box w v a b u
   hit-out u h =
       let e : A + D ≡ b .t - z = omega arith in
       let m = D * u .q in
@@ -179,7 +173,7 @@ module _ (z : ℕ) (box : Box) (w v : ℕ) (a b : Fix) (base : z ≤ a .t) (rise
         });
       }
 
-  hit-in : (u : Time) → LegIn z box w v a b u → Hit (raised 16000 z a) (raised 16000 z b) (framed 16000 box) w v u
+  hit-in : (u : Time) → LegIn z box w v a b u → Hit (raised z a) (raised z b) (framed box) w v u
   hit-in u h =
       let e : A + D ≡ b .t - z = omega arith in
       let m = D * u .q in
@@ -198,9 +192,9 @@ module _ (z : ℕ) (box : Box) (w v : ℕ) (a b : Fix) (base : z ≤ a .t) (rise
         };
       }
 
-  pub leg-means : Said (LegIn z box w v a b) (leg-first (raised 16000 z a) (raised 16000 z b) (framed 16000 box) w v)
-  leg-means = said-as (leg-first (raised 16000 z a) (raised 16000 z b) (framed 16000 box) w v) hit-out hit-in
-      (leg-said (raised 16000 z a) (raised 16000 z b) (framed 16000 box) w v (low-raised z a pa) (low-raised z b pb) (omega arith))
+  pub leg-means : Said (LegIn z box w v a b) (leg-first (raised z a) (raised z b) (framed box) w v)
+  leg-means = said-as (leg-first (raised z a) (raised z b) (framed box) w v) hit-out hit-in
+      (leg-said (raised z a) (raised z b) (framed box) w v (omega arith))
 
 -- ---- a lone fix, in a window that doesn't go on after it
 pub record OwnIn (z : ℕ) (box : Box) (w v : ℕ) (a : Fix) (u : Time) : Type 0 where
@@ -215,15 +209,15 @@ module _ {i lo hi : ℤ} {I L H : ℕ} (ci : Counts i I) (cl : Counts lo L) (ch 
   rests-out : L ≤ I → I ≤ H → ((lo *ℤ pos 1) ≤ℤ i) × (i ≤ℤ (hi *ℤ pos 1))
   rests-out h k = (simp (ci .is, cl .is, diffs) (omega arith), simp (ci .is, ch .is, diffs) (omega arith))
 
-module _ (z : ℕ) (box : Box) (w v : ℕ) (a : Fix) (ends : v ≤ a .t - z) (pa : Bounded 16000 a) (nb : BoxInLimit box) where
-  stands-out : (u : Time) → RestsIn (raised 16000 z a) (framed 16000 box) w v u → OwnIn z box w v a u
+module _ (z : ℕ) (box : Box) (w v : ℕ) (a : Fix) (ends : v ≤ a .t - z) (pa : Bounded widest a) (nb : BoxInWidest box) where
+  stands-out : (u : Time) → RestsIn (raised z a) (framed box) w v u → OwnIn z box w v a u
   unfolding own
   stands-out u h =
       let x = rests-out (counts (a .x) (placed-x pa)) (counts (box .x-low) (nb .x-low)) (counts (box .x-high) (nb .x-high)) (h .in-x .above) (h .in-x .below) in
       let y = rests-out (counts (a .y) (placed-y pa)) (counts (box .y-low) (nb .y-low)) (counts (box .y-high) (nb .y-high)) (h .in-y .above) (h .in-y .below) in
       record { from = h .on .from; window = h .window; inside = record { x-above = x .0; x-below = x .1; y-above = y .0; y-below = y .1 } }
 
-  stands-in : (u : Time) → OwnIn z box w v a u → RestsIn (raised 16000 z a) (framed 16000 box) w v u
+  stands-in : (u : Time) → OwnIn z box w v a u → RestsIn (raised z a) (framed box) w v u
   unfolding own
   stands-in u h =
       let x = rests-in (counts (a .x) (placed-x pa)) (counts (box .x-low) (nb .x-low)) (counts (box .x-high) (nb .x-high)) (h .inside .x-above) (h .inside .x-below) in
@@ -235,5 +229,31 @@ module _ (z : ℕ) (box : Box) (w v : ℕ) (a : Fix) (ends : v ≤ a .t - z) (pa
         in-y = record { above = y .0; below = y .1 };
       }
 
-  pub alone-means : Said (OwnIn z box w v a) (leg-first (raised 16000 z a) (raised 16000 z a) (framed 16000 box) w v)
-  alone-means = said-as (leg-first (raised 16000 z a) (raised 16000 z a) (framed 16000 box) w v) stands-out stands-in (alone-said (raised 16000 z a) (framed 16000 box) w v)
+  pub alone-means : Said (OwnIn z box w v a) (leg-first (raised z a) (raised z a) (framed box) w v)
+  alone-means = said-as (leg-first (raised z a) (raised z a) (framed box) w v) stands-out stands-in (alone-said (raised z a) (framed box) w v)
+
+-- ---- what holds of the leg's own times, of the window's and of each axis's holds of those that are of all
+pub leg-each : (P : Fraction → Type 0) (a b : Raised) (f : Frame) (w v : ℕ) → Each P (times (a .t .0) (a .t .0 + (b .t .0 - a .t .0)) 1) → Each P (times w v 1)
+    → Each P (axis-times (a .t .0) (b .t .0 - a .t .0) (a .x .0) (b .x .0) (f .left .0) (f .right .0))
+    → Each P (axis-times (a .t .0) (b .t .0 - a .t .0) (a .y .0) (b .y .0) (f .bottom .0) (f .top .0)) → Each P (leg-times a b f w v)
+unfolding leg-times
+leg-each P a b f w v l o x y = both-each P (both-each P (both-each P l o) x) y
+
+-- ---- THE DENOMINATOR. Where no place of a leg is further from 0 than a limit, it is at most twice that limit: 32,000 for kind 1, and 320,000 for kind 2. (That it is
+-- at least 1 is `some-den` of `First`.)
+apart : {limit : ℕ} {i j : ℤ} {I J : ℕ} → Counts i I → Counts j J → negℤ (pos limit) ≤ℤ i → j ≤ℤ pos limit → J - I ≤ 2 * limit
+apart ci cj h k = omega (arith, simp (ci .is, diffs) at h, simp (cj .is, diffs) at k)
+
+pub leg-over : (limit z : ℕ) (a b : Fix) (f : Frame) (w v : ℕ) → 1 ≤ limit → Bounded widest a → Bounded widest b → Bounded limit a → Bounded limit b
+    → IfSome (λ (g : Fraction). g .den ≤ 2 * limit) (leg-first (raised z a) (raised z b) f w v)
+unfolding leg-first
+leg-over limit z a b f w v one qa qb pa pb =
+    let P : Fraction → Type 0 = λ g. g .den ≤ 2 * limit in
+    let some : 1 ≤ 2 * limit = omega arith in
+    let ax = counts (a .x) (placed-x qa) in
+    let bx = counts (b .x) (placed-x qb) in
+    let ay = counts (a .y) (placed-y qa) in
+    let by = counts (b .y) (placed-y qb) in
+    let x = axis-over (a .t - z) (b .t - z - (a .t - z)) (offset-of (a .x)) (offset-of (b .x)) (f .left .0) (f .right .0) (2 * limit) some (apart ax bx (pa .x-low) (pb .x-high)) (apart bx ax (pb .x-low) (pa .x-high)) in
+    let y = axis-over (a .t - z) (b .t - z - (a .t - z)) (offset-of (a .y)) (offset-of (b .y)) (f .bottom .0) (f .top .0) (2 * limit) some (apart ay by (pa .y-low) (pb .y-high)) (apart by ay (pb .y-low) (pa .y-high)) in
+    first-each P (leg-each P (raised z a) (raised z b) f w v (record { of-first = some; of-last = some }) (record { of-first = some; of-last = some }) x y)

@@ -24,7 +24,7 @@ returns c =
     let s = c .before .before .before .before .before .before in
     let x = across s in
     let y = along s in
-    simp (toZ-ofZ, x .z16, x .z64, y .z16, y .z64, rounded-whole)
+    simp (toZ-ofZ, x .z32, x .z64, y .z32, y .z64, rounded-whole)
 
 pub alone-spec : {M : Type 1} → statement M
 alone-spec = tie.close (tie.spec cast-t5 cast-t6 returns)

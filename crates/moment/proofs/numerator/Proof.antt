@@ -4,7 +4,7 @@ use Rattle.moment.proofs.numerator.Statement.{statement}
 use Rattle.moment.proofs.numerator.Tie as tie
 
 ranges : (s : tie.Start) → NumeratorFits (s .args .i .0) (s .args .j .0) (s .args .over .0) (s .args .gone .0)
-ranges s = numerator-fits (search needs) (search needs) (search needs) (search needs)
+ranges s = numerator-fits (s .pre .0) (s .pre .1) (search needs) (search needs)
 
 cast-start : tie.Need-cast-start
 cast-start c = let k = ranges (c .before .before) in search needs

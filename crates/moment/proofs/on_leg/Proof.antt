@@ -4,7 +4,7 @@ use mir.Facts.{toZ-ofZ}
 use mir.Syntax.{w64}
 use mir.Val.{SFits}
 use Rattle.distance.specs.Span.{Roundable}
-use Rattle.moment.specs.Laws.Ranges.{roundable-x, roundable-y, leg-standing}
+use Rattle.moment.specs.Laws.Ranges.{x-within, y-within, roundable-x, roundable-y, leg-standing}
 use borrow.Author.Needs.{needs}
 use Rattle.moment.proofs.on_leg.Statement.{statement}
 use Rattle.moment.proofs.on_leg.Tie as tie
@@ -47,10 +47,10 @@ cast-t12-2 : tie.Need-cast-t12-2
 cast-t12-2 c = search needs
 
 numerator-requires : tie.Need-numerator-requires
-numerator-requires c κs = search needs
+numerator-requires c κs = x-within (c .before .before .before .before .before .before .pre)
 
 numerator-requires-2 : tie.Need-numerator-requires-2
-numerator-requires-2 c κs = search needs
+numerator-requires-2 c κs = y-within (c .before .before .before .before .before .before .before .pre)
 
 -- the numerators fit 64 bits, as what a function of that type gives
 x-fits : (c : tie.After-numerator2) → SFits w64 (c .before .numerator .result)

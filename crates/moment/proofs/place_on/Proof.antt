@@ -3,26 +3,27 @@ use Prim.Native.Nat.{_-_}
 use native.Mathlib.Omega.{arith}
 use Rattle.distance.specs.Fix.{fixOf}
 use Rattle.moment.specs.Moment.{beside}
-use Rattle.record.specs.Laws.Trail.{lent}
+use Rattle.format.specs.Kinds.{layout}
+use Rattle.record.specs.Laws.Trail.{lent, reaches}
 use Rattle.moment.specs.Laws.Walk.{Walk, walk-start, walk-leg, walk-found, walk-next, walk-end}
 use borrow.Author.Needs.{needs}
 use Rattle.moment.proofs.place_on.Statement.{statement}
 use Rattle.moment.proofs.place_on.Tie as tie
 
 abbrev Inv-loop : tie.InvT-loop
-Inv-loop b n u a₀ k₀ a k = Walk b n (u .0) (fixOf a) k
+Inv-loop b kind n u a₀ k₀ a k = Walk (layout kind) b n (u .0) (fixOf a) k
 
 abbrev μ-loop : tie.MeasureT-loop
-μ-loop b n u a₀ k₀ a k = n - k
+μ-loop b kind n u a₀ k₀ a k = n - k
 
 fix-at-requires : tie.Need-fix-at-requires Inv-loop μ-loop
-fix-at-requires c κs = let l = lent (c .before .pre .is-accepted) (c .before .pre .count) in search needs
+fix-at-requires c κs = let r = c .before .pre in let l = lent (r .is-accepted) (r .kind) (r .count) in reaches 0 l (l .some)
 
 loop-holds : tie.Need-loop-holds Inv-loop μ-loop
 loop-holds c = walk-start (c .before .before .pre) (c .fix-at .ensures)
 
 fix-at-requires-2 : tie.Need-fix-at-requires-2 Inv-loop μ-loop
-fix-at-requires-2 c κs = let l = lent (c .before .before .before .before .pre .is-accepted) (c .before .before .before .before .pre .count) in search needs
+fix-at-requires-2 c κs = let r = c .before .before .before .before .pre in reaches _ (lent (r .is-accepted) (r .kind) (r .count)) (c .loop-test .taken)
 
 instant-of-requires : tie.Need-instant-of-requires Inv-loop μ-loop
 instant-of-requires c κs = search needs

@@ -12,16 +12,16 @@ use Rattle.distance.specs.Clock.{moved, Stays, moved-fix}
 use Rattle.distance.specs.Laws.All.{All, all-none, all-more}
 use Rattle.distance.specs.Laws.Clock.{place-later}
 use Rattle.distance.specs.Integers.Tests.{same-test}
-use Rattle.format.specs.Format.{trail, fixes}
+use Rattle.format.specs.Format.{fixes}
 use Rattle.format.specs.Laws.RoundTrip.{AreBytes}
-use Rattle.record.specs.Checks.{Check, bad-moment, sentence, head-refusal, asked-of, refusal, placing, moment-outside}
+use Rattle.record.specs.Checks.{Check, bad-moment, sentence, head-refusal, refusal-of, placing, moment-outside}
 use Rattle.record.specs.Moved.{moved-record, Movable}
 use Rattle.record.specs.Laws.First.{answer-same}
 use Rattle.record.specs.Laws.Changed.{ends-changed}
 use Rattle.record.specs.Laws.Moved.{Later, accepted-later, either-way, later-refusal}
 use Rattle.moment.specs.Moment.{asked-moment, at-moment, place-answer}
 use Rattle.moment.specs.Laws.Moment.{moment, instant, moment-is}
-use Rattle.moment.specs.Laws.Placing.{own-checks, asks, none-accepted}
+use Rattle.moment.specs.Laws.Placing.{own-checks, asks-moment, none-accepted}
 
 -- ---- a list of fixes, all k seconds later
 at-later : (k : ℕ) (l : List Fix) (s m : ℕ) → at-moment (map (moved-fix (pos k)) l) (s + k) m ≡ at-moment l s m
@@ -38,20 +38,20 @@ module _ (k : ℕ) (b c : List ℕ) (l : Later k b c) (s m : ℕ) where
       let after : ltb (1000 * (g .t + k)) (1000 * (s + k) + m) ≡ ltb (1000 * g .t) (1000 * s + m) = same-test (suc (1000 * (g .t + k))) (1000 * (s + k) + m) (suc (1000 * g .t)) (1000 * s + m) ((λ z. omega arith), (λ z. omega arith)) in
       rw (before, after) refl
 
-  same-own-checks : head-refusal trail b ≡ none → All (λ (q : Check). asks c (s + k) m q ≡ asks b s m q) own-checks
+  same-own-checks : head-refusal b ≡ none → All (λ (q : Check). asks-moment c (s + k) m q ≡ asks-moment b s m q) own-checks
   unfolding sentence
   same-own-checks h =
-      let moment-in : asks c (s + k) m bad-moment ≡ asks b s m bad-moment = rw (l .later-fixes h) (ends-changed (moved-fix (pos k)) (moment-outside s m) (moment-outside (s + k) m) outside-later (fixes trail b)) in
+      let moment-in : asks-moment c (s + k) m bad-moment ≡ asks-moment b s m bad-moment = rw (l .later-fixes h) (ends-changed (moved-fix (pos k)) (moment-outside s m) (moment-outside (s + k) m) outside-later (fixes b)) in
       all-more refl (all-more moment-in all-none)
 
-  same-refusal : refusal trail placing (asked-of trail c (asked-moment (s + k) m)) ≡ refusal trail placing (asked-of trail b (asked-moment s m))
+  same-refusal : refusal-of placing c (asked-moment (s + k) m) ≡ refusal-of placing b (asked-moment s m)
   same-refusal = later-refusal k b c l (asked-moment s m) (asked-moment (s + k) m) own-checks same-own-checks
 
-  place-answer-later : place-answer trail c (s + k) m ≡ place-answer trail b s m
-  place-answer-later = rw same-refusal (answer-same (refusal trail placing (asked-of trail b (asked-moment s m))) (λ x. rw (accepted-later l (none-accepted b s m x), at-later k (fixes trail b) s m) refl))
+  place-answer-later : place-answer c (s + k) m ≡ place-answer b s m
+  place-answer-later = rw same-refusal (answer-same (refusal-of placing b (asked-moment s m)) (λ x. rw (accepted-later l (none-accepted b s m x), at-later k (fixes b) s m) refl))
 
 -- ---- THE LAW. Of all lent bytes, and for every s, later or earlier, that keeps the asked second and, unless one of checks 1 to 6 turns the bytes away, each time of
 -- the record in 32 bits.
-pub place-answer-moved : (s : ℤ) (b : List ℕ) → AreBytes b → Movable trail s b → (second m : ℕ) → Stays s second
-    → place-answer trail (moved-record trail s b) (moved s second) m ≡ place-answer trail b second m
-place-answer-moved s b bytes stay second m from = either-way (λ b w v. place-answer trail b w m) (λ k b c l p q w v. place-answer-later k b c l w m) s b bytes stay second second from from
+pub place-answer-moved : (s : ℤ) (b : List ℕ) → AreBytes b → Movable s b → (second m : ℕ) → Stays s second
+    → place-answer (moved-record s b) (moved s second) m ≡ place-answer b second m
+place-answer-moved s b bytes stay second m from = either-way (λ b w v. place-answer b w m) (λ k b c l p q w v. place-answer-later k b c l w m) s b bytes stay second second from from

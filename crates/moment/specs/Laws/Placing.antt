@@ -14,70 +14,71 @@ use Rattle.distance.specs.Rounding.{rounded, Nearest}
 use Rattle.distance.specs.Laws.Place.{place-proper}
 use Rattle.distance.specs.Laws.Rounding.{rounded-nearest}
 use Rattle.distance.specs.Integers.Order.{pos-le}
-use Rattle.format.specs.Format.{trail, fix-at, count-field, fixes}
-use Rattle.record.specs.Checks.{Check, bad-thousandths, bad-moment, first, sentence, asked-of, head-checks, fix-checks, read-refusal, IsAccepted, refusal, placing, moment-outside}
+use Rattle.format.specs.Format.{count-field, fixes}
+use Rattle.record.specs.Checks.{Check, bad-thousandths, bad-moment, first, sentence, head-checks, fix-checks, read-refusal, IsAccepted, refusal-of, placing, moment-outside}
 use Rattle.record.specs.Answers.{gives, turns-away, answer}
 use Rattle.record.specs.Laws.First.{stops, passes, first-none, some-first, none-first, none-front, reading-alone}
+use Rattle.record.specs.Laws.Head.{asks}
 use Rattle.record.specs.Laws.Accepted.{accepted-good, times-good}
 use Rattle.moment.specs.Moment.{asked-moment, at-moment, beside, place-answer, Standing}
 use Rattle.moment.specs.Laws.Moment.{moment, moment-is}
-use Rattle.record.specs.Laws.Trail.{ends-are}
+use Rattle.record.specs.Laws.Trail.{fix-of, ends-are}
 
 -- those of the question itself
 abbrev pub own-checks : List Check
 own-checks = bad-thousandths ∷ bad-moment ∷ []
 
 module _ (b : List ℕ) (s m : ℕ) where
-  abbrev pub asks : Check → Bool
-  asks = sentence trail (asked-of trail b (asked-moment s m))
+  abbrev pub asks-moment : Check → Bool
+  asks-moment = asks b (asked-moment s m)
 
   -- one of checks 1 to 9 turns the bytes away
-  pub place-refused : (k : ℕ) → read-refusal trail b ≡ some k → place-answer trail b s m ≡ turns-away k
-  place-refused k h = rw (some-first asks (head-checks ++ fix-checks) own-checks k (reading-alone trail b (asked-moment s m) ∙ h)) refl
+  pub place-refused : (k : ℕ) → read-refusal b ≡ some k → place-answer b s m ≡ turns-away k
+  place-refused k h = rw (some-first asks-moment (head-checks ++ fix-checks) own-checks k (reading-alone b (asked-moment s m) ∙ h)) refl
 
   -- if no check does, the record is accepted
-  pub none-accepted : refusal trail placing (asked-of trail b (asked-moment s m)) ≡ none → IsAccepted trail b
-  none-accepted h = record { accepted = sym (reading-alone trail b (asked-moment s m)) ∙ none-front asks (head-checks ++ fix-checks) own-checks h }
+  pub none-accepted : refusal-of placing b (asked-moment s m) ≡ none → IsAccepted b
+  none-accepted h = record { accepted = sym (reading-alone b (asked-moment s m)) ∙ none-front asks-moment (head-checks ++ fix-checks) own-checks h }
 
-  module _ (accepted : IsAccepted trail b) where
-    left : first asks ((head-checks ++ fix-checks) ++ own-checks) ≡ first asks own-checks
-    left = none-first asks (head-checks ++ fix-checks) own-checks (reading-alone trail b (asked-moment s m) ∙ accepted .accepted)
+  module _ (accepted : IsAccepted b) where
+    left : first asks-moment ((head-checks ++ fix-checks) ++ own-checks) ≡ first asks-moment own-checks
+    left = none-first asks-moment (head-checks ++ fix-checks) own-checks (reading-alone b (asked-moment s m) ∙ accepted .accepted)
 
-    high : 999 < m → asks bad-thousandths ≡ true
+    high : 999 < m → asks-moment bad-thousandths ≡ true
     unfolding sentence
     high h = lt-ltb 999 m h
 
-    not-high : m ≤ 999 → asks bad-thousandths ≡ false
+    not-high : m ≤ 999 → asks-moment bad-thousandths ≡ false
     unfolding sentence
     not-high h = le-ltb 999 m h
 
     abbrev first-fix : Fix
-    first-fix = fix-at trail b 0
+    first-fix = fix-of b 0
 
     abbrev final-fix : Fix
-    final-fix = fix-at trail b (count-field b - 1)
+    final-fix = fix-of b (count-field b - 1)
 
-    moment-says : asks bad-moment ≡ moment-outside s m first-fix final-fix
+    moment-says : asks-moment bad-moment ≡ moment-outside s m first-fix final-fix
     unfolding sentence
     moment-says = ends-are b (moment-outside s m) (accepted-good b accepted .head .some-fix)
 
-    pub place-11 : 999 < m → place-answer trail b s m ≡ turns-away 11
-    place-11 h = rw (left, stops asks bad-thousandths (bad-moment ∷ []) (high h)) refl
+    pub place-11 : 999 < m → place-answer b s m ≡ turns-away 11
+    place-11 h = rw (left, stops asks-moment bad-thousandths (bad-moment ∷ []) (high h)) refl
 
-    pub place-early : m ≤ 999 → 1000 * s + m < 1000 * first-fix .t → place-answer trail b s m ≡ turns-away 12
+    pub place-early : m ≤ 999 → 1000 * s + m < 1000 * first-fix .t → place-answer b s m ≡ turns-away 12
     place-early h k =
-        let e : asks bad-moment ≡ true = moment-says ∙ rw (lt-ltb _ _ k) refl in
-        rw (left, passes asks bad-thousandths (bad-moment ∷ []) (not-high h), stops asks bad-moment [] e) refl
+        let e : asks-moment bad-moment ≡ true = moment-says ∙ rw (lt-ltb _ _ k) refl in
+        rw (left, passes asks-moment bad-thousandths (bad-moment ∷ []) (not-high h), stops asks-moment bad-moment [] e) refl
 
-    pub place-late : m ≤ 999 → 1000 * first-fix .t ≤ 1000 * s + m → 1000 * final-fix .t < 1000 * s + m → place-answer trail b s m ≡ turns-away 12
+    pub place-late : m ≤ 999 → 1000 * first-fix .t ≤ 1000 * s + m → 1000 * final-fix .t < 1000 * s + m → place-answer b s m ≡ turns-away 12
     place-late h k l =
-        let e : asks bad-moment ≡ true = moment-says ∙ rw (le-ltb _ _ k, lt-ltb _ _ l) refl in
-        rw (left, passes asks bad-thousandths (bad-moment ∷ []) (not-high h), stops asks bad-moment [] e) refl
+        let e : asks-moment bad-moment ≡ true = moment-says ∙ rw (le-ltb _ _ k, lt-ltb _ _ l) refl in
+        rw (left, passes asks-moment bad-thousandths (bad-moment ∷ []) (not-high h), stops asks-moment bad-moment [] e) refl
 
-    pub place-gives : m ≤ 999 → 1000 * first-fix .t ≤ 1000 * s + m → 1000 * s + m ≤ 1000 * final-fix .t → place-answer trail b s m ≡ gives (beside (place (fixes trail b) (moment s m)))
+    pub place-gives : m ≤ 999 → 1000 * first-fix .t ≤ 1000 * s + m → 1000 * s + m ≤ 1000 * final-fix .t → place-answer b s m ≡ gives (beside (place (fixes b) (moment s m)))
     place-gives h k l =
-        let e : asks bad-moment ≡ false = moment-says ∙ rw (le-ltb _ _ k, le-ltb _ _ l) refl in
-        rw (left, passes asks bad-thousandths (bad-moment ∷ []) (not-high h), passes asks bad-moment [] e, first-none asks, moment-is (fixes trail b) s m) refl
+        let e : asks-moment bad-moment ≡ false = moment-says ∙ rw (le-ltb _ _ k, le-ltb _ _ l) refl in
+        rw (left, passes asks-moment bad-thousandths (bad-moment ∷ []) (not-high h), passes asks-moment bad-moment [] e, first-none asks-moment, moment-is (fixes b) s m) refl
 
 -- ---- THE ANSWER ON LENT BYTES MEANS IT: the fraction is the trail's interpolated place at that moment, and the rounded place the nearest whole one
 pub record Stands (l : List Fix) (s m : ℕ) (a : Standing) : Type 0 where
@@ -90,8 +91,8 @@ nearest : (n d : ℤ) → pos 1 ≤ℤ d → Nearest n d (rounded n d)
 nearest n (pos d) h = rounded-nearest n d (pos-le 1 d .0 h)
 nearest n (negsuc d) h = absurd (h .le)
 
-pub place-means : (b : List ℕ) (s m : ℕ) (a : Standing) → place-answer trail b s m ≡ gives a → Stands (fixes trail b) s m a
-place-means b s m a h = go (refusal trail placing (asked-of trail b (asked-moment s m))) refl h
+pub place-means : (b : List ℕ) (s m : ℕ) (a : Standing) → place-answer b s m ≡ gives a → Stands (fixes b) s m a
+place-means b s m a h = go (refusal-of placing b (asked-moment s m)) refl h
   where
     given-is : {x y : Standing} → gives x ≡ gives y → x ≡ y
     given-is {x} {y} q = let z : x ≡ y = cc in z
@@ -99,13 +100,13 @@ place-means b s m a h = go (refusal trail placing (asked-of trail b (asked-momen
     never-given : {k : ℕ} {x : Standing} → turns-away k ≡ gives x → ⊥
     never-given q = let z : _≡_ {A = ℕ} 0 1 = cc in omega arith
 
-    stands : (P : Place) → Proper P → P ≡ place (fixes trail b) (moment s m) → Stands (fixes trail b) s m (beside P)
+    stands : (P : Place) → Proper P → P ≡ place (fixes b) (moment s m) → Stands (fixes b) s m (beside P)
     stands P p e = record { is-place = e; proper = p; x-nearest = nearest (P .x) (P .d) (p .proper); y-nearest = nearest (P .y) (P .d) (p .proper) }
 
-    go : (r : Option ℕ) → refusal trail placing (asked-of trail b (asked-moment s m)) ≡ r → answer r (beside (at-moment (fixes trail b) s m)) ≡ gives a → Stands (fixes trail b) s m a
+    go : (r : Option ℕ) → refusal-of placing b (asked-moment s m) ≡ r → answer r (beside (at-moment (fixes b) s m)) ≡ gives a → Stands (fixes b) s m a
     go (some k) n q = absurd (never-given q)
     go none n q =
         let good = accepted-good b (none-accepted b s m n) in
-        let rises = times-good (fixes trail b) (good .trail-good .ordered) in
-        let e = moment-is (fixes trail b) s m in
-        rw (← given-is q) (stands (at-moment (fixes trail b) s m) (rw e (place-proper (moment s m) rises)) e)
+        let rises = times-good (fixes b) (good .trail-good .ordered) in
+        let e = moment-is (fixes b) s m in
+        rw (← given-is q) (stands (at-moment (fixes b) s m) (rw e (place-proper (moment s m) rises)) e)

@@ -4,59 +4,60 @@ use mathlib.Core.List.{List, _∷_}
 use Prim.Native.Nat.{ℕ, _+_, _*_, _<_, _≤_}
 use native.Mathlib.Omega.{arith}
 use borrow.Author.Tests.{le-leb, lt-leb}
-use Rattle.distance.specs.Fix.{Fix}
+use Rattle.distance.specs.Fix.{Fix, widest}
 use Rattle.distance.specs.Place.{own, leg, place-from, place}
-use Rattle.format.specs.Format.{trail, fix-at, count-field, fixes}
+use Rattle.format.specs.Kinds.{Kind}
+use Rattle.format.specs.Format.{fix-at, count-field, fixes}
 use Rattle.record.specs.Laws.Head.{Head}
 use Rattle.record.specs.Laws.Accepted.{accepted-good}
 use Rattle.moment.specs.Laws.Moment.{instant}
-use Rattle.record.specs.Laws.Trail.{CheckedTrail, from, from-next, from-end, fixes-from, next, leg-of, accepted-checked}
+use Rattle.record.specs.Laws.Trail.{CheckedTrail, from, from-next, from-end, fix-of, fixes-from, next, leg-of, accepted-widest}
 use Rattle.moment.specs.Laws.Ranges.{OnLeg, Reached}
 
 -- fix a stands before position k, and what is left is to be found from there on
-pub record Walk (b : List ℕ) (n u : ℕ) (a : Fix) (k : ℕ) : Type 0 where
+pub record Walk (K : Kind) (b : List ℕ) (n u : ℕ) (a : Fix) (k : ℕ) : Type 0 where
   pub some : 1 ≤ k
   pub few : k ≤ n
-  pub checked : CheckedTrail a (from b k n)
+  pub checked : CheckedTrail widest a (from (fix-at K b) k n)
   pub reached : 1000 * a .t ≤ u
-  pub left : place (fixes trail b) (instant u) ≡ place-from a (from b k n) (instant u)
+  pub left : place (fixes b) (instant u) ≡ place-from a (from (fix-at K b) k n) (instant u)
 
-first-left : (b : List ℕ) (u : ℕ) → 1 ≤ count-field b → place (fixes trail b) (instant u) ≡ place-from (fix-at trail b 0) (from b 1 (count-field b)) (instant u)
+first-left : (b : List ℕ) (u : ℕ) → 1 ≤ count-field b → place (fixes b) (instant u) ≡ place-from (fix-of b 0) (from (fix-of b) 1 (count-field b)) (instant u)
 unfolding place
 first-left b u h = rw (fixes-from b h) refl
 
-pub walk-start : {b : List ℕ} {n u : ℕ} {a : Fix} → Reached b n u → a ≡ fix-at trail b 0 → Walk b n u a 1
-walk-start {b} {n} {u} {a} r e =
+pub walk-start : {K : Kind} {b : List ℕ} {n u : ℕ} {a : Fix} → Reached K b n u → a ≡ fix-at K b 0 → Walk K b n u a 1
+walk-start {K} {b} {n} {u} {a} r e =
     let g : Head b = accepted-good b (r .is-accepted) .head in
-    rw (e, r .count) (record { some = omega arith; few = g .some-fix; checked = accepted-checked b (r .is-accepted); reached = r .from; left = first-left b u (g .some-fix) })
+    rw (e, r .kind, r .count) (record { some = omega arith; few = g .some-fix; checked = accepted-widest b (r .is-accepted); reached = r .from; left = first-left b u (g .some-fix) })
 
-module _ {b : List ℕ} {n u : ℕ} {a z : Fix} {k : ℕ} (w : Walk b n u a k) where
-  module _ (h : k < n) (e : z ≡ fix-at trail b k) where
-    rest : from b k n ≡ z ∷ from b (k + 1) n
-    rest = rw e (from-next b k n h)
+module _ {K : Kind} {b : List ℕ} {n u : ℕ} {a z : Fix} {k : ℕ} (w : Walk K b n u a k) where
+  module _ (h : k < n) (e : z ≡ fix-at K b k) where
+    rest : from (fix-at K b) k n ≡ z ∷ from (fix-at K b) (k + 1) n
+    rest = rw e (from-next (fix-at K b) k n h)
 
-    ahead : CheckedTrail a (z ∷ from b (k + 1) n)
+    ahead : CheckedTrail widest a (z ∷ from (fix-at K b) (k + 1) n)
     ahead = rw rest at (w .checked)
 
     -- the leg to z is the one ..
     pub walk-leg : u ≤ 1000 * z .t → OnLeg a z u
-    walk-leg t = record { leg = leg-of a z (from b (k + 1) n) ahead; from = w .reached; until = t }
+    walk-leg t = record { leg = leg-of a z (from (fix-at K b) (k + 1) n) ahead; from = w .reached; until = t }
 
-    pub walk-found : u ≤ 1000 * z .t → place (fixes trail b) (instant u) ≡ leg a z (instant u)
+    pub walk-found : u ≤ 1000 * z .t → place (fixes b) (instant u) ≡ leg a z (instant u)
     unfolding place-from
     walk-found t = w .left ∙ rw (rest, le-leb u (1000 * z .t) t) refl
 
     -- .. or it is behind
-    pub walk-next : 1000 * z .t < u → Walk b n u z (k + 1)
+    pub walk-next : 1000 * z .t < u → Walk K b n u z (k + 1)
     unfolding place-from
     walk-next t = record {
       some = omega arith;
       few = omega arith;
-      checked = next a z (from b (k + 1) n) ahead;
+      checked = next a z (from (fix-at K b) (k + 1) n) ahead;
       reached = omega arith;
       left = w .left ∙ rw (rest, lt-leb u (1000 * z .t) t) refl;
     }
 
-pub walk-end : {b : List ℕ} {n u : ℕ} {a : Fix} {k : ℕ} → Walk b n u a k → n ≤ k → place (fixes trail b) (instant u) ≡ own a
+pub walk-end : {K : Kind} {b : List ℕ} {n u : ℕ} {a : Fix} {k : ℕ} → Walk K b n u a k → n ≤ k → place (fixes b) (instant u) ≡ own a
 unfolding place-from
-walk-end {b} {n} {u} {a} {k} w h = let e : k ≡ n = omega (arith, w .few) in w .left ∙ rw (e, from-end b n) refl
+walk-end {K} {b} {n} {u} {a} {k} w h = let e : k ≡ n = omega (arith, w .few) in w .left ∙ rw (e, from-end (fix-at K b) n) refl

@@ -13,7 +13,7 @@ use Rattle.distance.specs.Place.{Proper, Time, From, Until, place, Near}
 use Rattle.distance.specs.Box.{Box, In, NearBox, NearSide}
 use Rattle.distance.specs.Laws.Box.{told, denied}
 use Rattle.distance.specs.Laws.Place.{place-proper}
-use Rattle.format.specs.Format.{trail, never, mark-field, count-field, fixes, fix-at}
+use Rattle.format.specs.Format.{kind-of, never, mark-field, count-field, fixes, fix-at}
 use Rattle.format.specs.Laws.Each.{length-each}
 use Rattle.record.specs.Checks.{FirstHolds, Asked, IsAccepted, bad-window, bad-box, sentence, asked-of, refusal, crossing, of-ends, second-outside}
 use Rattle.record.specs.Answers.{gives, turns-away, answer}
@@ -53,7 +53,7 @@ asked-in (same-ends {i} {l} {k} h) s e q u f t =
 abbrev window-bad : List Fix → (s e : ℕ) → Bool
 window-bad l s e = ltb e s || (of-ends (second-outside s) l || of-ends (second-outside e) l)
 
-window-says : (c : List ℕ) (s e : ℕ) (box : Box) → sentence trail (asked-of trail c (asked-crossing s e box)) bad-window ≡ false → window-bad (fixes trail c) s e ≡ false
+window-says : (c : List ℕ) (s e : ℕ) (box : Box) → sentence (kind-of c) (asked-of c (asked-crossing s e box)) bad-window ≡ false → window-bad (fixes c) s e ≡ false
 unfolding sentence
 window-says c s e box h = h
 
@@ -76,7 +76,7 @@ module _ (E : Option ℕ) (l m : List Fix) (rises : Rising l) (is : m ≡ kept-a
   proper-then : (u : Time) → Proper (place m u)
   proper-then u = place-proper u (rw is (kept-rises E l rises))
 
-  told-near : (n d : ℕ) (t : Told m box s e n d) → NearBox (counts-as E) box (place l (after-first m n d (t .some-denominator)))
+  told-near : {limit : ℕ} (n d : ℕ) (t : Told limit m box s e n d) → NearBox (counts-as E) box (place l (after-first m n d (t .some-denominator)))
   told-near n d t =
       let u = after-first m n d (t .some-denominator) in
       told (counts-as E) box (place l u) (place m u) (near-then u (t .crosses .opened) (t .crosses .closed)) (proper-then u) (t .crosses .inside)
@@ -85,64 +85,65 @@ module _ (E : Option ℕ) (l m : List Fix) (rises : Rising l) (is : m ≡ kept-a
   denied-near never-in u f t i = denied (near-then u f t) (place-proper u rises) (proper-then u) box i (λ j. never-in u (record { opened = f; closed = t; inside = j }))
 
 -- ---- the crossing's answer on a trail that was kept at E
-module _ (E : Option ℕ) (l : List Fix) (c : List ℕ) (rises : Rising l) (a : IsAccepted trail c) (is : fixes trail c ≡ kept-at E l) (s e : ℕ) (box : Box) where
+module _ (E : Option ℕ) (l : List Fix) (c : List ℕ) (rises : Rising l) (a : IsAccepted c) (is : fixes c ≡ kept-at E l) (s e : ℕ) (box : Box) where
   abbrev q : Asked
-  q = asked-of trail c (asked-crossing s e box)
+  q = asked-of c (asked-crossing s e box)
 
   abbrev m : List Fix
-  m = fixes trail c
+  m = fixes c
 
   some-fix-left : 1 ≤ length m
-  some-fix-left = let g = accepted-good c a .head in omega (arith, g .some-fix, length-each (fix-at trail c) 0 (count-field c))
+  some-fix-left = let g = accepted-good c a .head in omega (arith, g .some-fix, length-each (fix-at (kind-of c) c) 0 (count-field c))
 
-  say : window-bad m s e ≡ false → (o : Option Fraction) → Means m box s e o → CrossingSays (counts-as E) l c s e box (gives o)
+  say : window-bad m s e ≡ false → (o : Option Fraction) → Means (kind-of c .limit) m box s e o → CrossingSays (counts-as E) l c s e box (gives o)
   say w (some f) t = says-told t (told-near E l m rises is some-fix-left s e box w (f .num) (f .den) t)
   say w none d = says-denied d (denied-near E l m rises is some-fix-left s e box w d)
 
-  window-false : NoneHolds (sentence trail q) (bad-window ∷ bad-box ∷ []) → window-bad m s e ≡ false
+  window-false : NoneHolds (sentence (kind-of c) q) (bad-window ∷ bad-box ∷ []) → window-bad m s e ≡ false
   window-false (and-not w r) = window-says c s e box w
 
-  crossing-says : CrossingSays (counts-as E) l c s e box (cross-answer trail c s e box)
-  crossing-says = go (refusal trail crossing q) refl
+  crossing-says : CrossingSays (counts-as E) l c s e box (cross-answer c s e box)
+  crossing-says = go (refusal (kind-of c) crossing q) refl
     where
-      go : (r : Option ℕ) → refusal trail crossing q ≡ r → CrossingSays (counts-as E) l c s e box (answer r (first-crossing 16000 m box s e))
-      go (some k) h = says-refused (first-exactly (sentence trail q) k (bad-window ∷ bad-box ∷ []) .0 (sym (two-left c s e box a) ∙ h))
+      go : (r : Option ℕ) → refusal (kind-of c) crossing q ≡ r → CrossingSays (counts-as E) l c s e box (answer r (first-crossing m box s e))
+      go (some k) h = says-refused (first-exactly (sentence (kind-of c) q) k (bad-window ∷ bad-box ∷ []) .0 (sym (two-left c s e box a) ∙ h))
       go none h =
-          let w = window-false (none-holds (sentence trail q) (bad-window ∷ bad-box ∷ []) (sym (two-left c s e box a) ∙ h)) in
-          say w (first-crossing 16000 m box s e) (given-means c s e box h)
+          let w = window-false (none-holds (sentence (kind-of c) q) (bad-window ∷ bad-box ∷ []) (sym (two-left c s e box a) ∙ h)) in
+          say w (first-crossing m box s e) (given-means c s e box h)
 
 -- ---- DEMAND 3
-pub claim : (b : List ℕ) (calls : List Call) → AreBytes b → IsAccepted trail b → mark-field b ≡ never → Claim b calls
+pub claim : (b : List ℕ) (calls : List Call) → AreBytes b → IsAccepted b → mark-field b ≡ never → Claim b calls
 unfolding new-book
 claim b calls bytes a never-thinned =
     let s = agings b calls bytes a never-thinned in
-    let o : (book b calls) .original ≡ fixes trail b = original-stays (new-book (fixes trail b)) calls in
-    let rises = times-good (fixes trail b) (accepted-good b a .trail-good .ordered) in
+    let o : (book b calls) .original ≡ fixes b = original-stays (new-book (kind-of b) (fixes b)) calls in
+    let rises = times-good (fixes b) (accepted-good b a .trail-good .ordered) in
     record {
+      same-kind = s .same-kind;
       never-changed = o;
       still-accepted = s .still-accepted;
       exactly = s .exactly ∙ sym (ap (kept-at ((book b calls) .E)) o);
       marked = s .marked;
       same-size = s .same-size;
       rest = s .rest;
-      denominators = λ u. (rw o (place-proper u rises), rw (s .exactly) (place-proper u (kept-rises ((book b calls) .E) (fixes trail b) rises)));
-      near = λ u t. rw (o, s .exactly) (kept-near ((book b calls) .E) (fixes trail b) u rises (rw o at t));
+      denominators = λ u. (rw o (place-proper u rises), rw (s .exactly) (place-proper u (kept-rises ((book b calls) .E) (fixes b) rises)));
+      near = λ u t. rw (o, s .exactly) (kept-near ((book b calls) .E) (fixes b) u rises (rw o at t));
       asked-then = λ t e box. asked-after t e box b calls bytes;
-      crossings = λ t e box. rw o (crossing-says ((book b calls) .E) (fixes trail b) (run b calls) rises (s .still-accepted) (s .exactly) t e box);
+      crossings = λ t e box. rw o (crossing-says ((book b calls) .E) (fixes b) (run b calls) rises (s .still-accepted) (s .exactly) t e box);
     }
 
 -- ---- WHAT THE CLAIM'S ANSWER GIVES, by matching on all that `CrossingSays` can be: another way to say an answer would leave a case open here
 module _ {E : ℕ} {original : List Fix} {c : List ℕ} {s e : ℕ} {box : Box} where
   -- told: the time is of the window, no earlier one crosses, and at that time the original is at most E from a place in the box
   pub told-gives : {f : Fraction} → CrossingSays E original c s e box (gives (some f))
-      → (t : Told (fixes trail c) box s e (f .num) (f .den)) × NearBox E box (place original (after-first (fixes trail c) (f .num) (f .den) (t .some-denominator)))
+      → (t : Told (kind-of c .limit) (fixes c) box s e (f .num) (f .den)) × NearBox E box (place original (after-first (fixes c) (f .num) (f .den) (t .some-denominator)))
   told-gives (says-told t n) = (t, n)
 
   -- denied: no time of the window crosses, and whenever in the window the original is in the box, it is at most E from one of its sides
   pub denied-gives : CrossingSays E original c s e box (gives none)
-      → Denied (fixes trail c) box s e × ((u : Time) → From s u → Until e u → In box (place original u) → NearSide E box (place original u))
+      → Denied (fixes c) box s e × ((u : Time) → From s u → Until e u → In box (place original u) → NearSide E box (place original u))
   denied-gives (says-denied d n) = (d, n)
 
   -- refused: the number is that of the first of checks 13 and 14 whose sentence holds
-  pub refused-gives : {k : ℕ} → CrossingSays E original c s e box (turns-away k) → FirstHolds (sentence trail (asked-of trail c (asked-crossing s e box))) k (bad-window ∷ bad-box ∷ [])
+  pub refused-gives : {k : ℕ} → CrossingSays E original c s e box (turns-away k) → FirstHolds (sentence (kind-of c) (asked-of c (asked-crossing s e box))) k (bad-window ∷ bad-box ∷ [])
   refused-gives (says-refused h) = h

@@ -5,7 +5,6 @@ use Prim.Native.Nat.{ℕ, _+_}
 use lib.IntN.{ℤ}
 use Rattle.distance.specs.Box.{Box}
 use Rattle.distance.specs.Clock.{moved, Stays}
-use Rattle.format.specs.Format.{trail}
 use Rattle.format.specs.Laws.RoundTrip.{AreBytes}
 use Rattle.record.specs.Moved.{moved-record, Movable}
 use Rattle.record.specs.Laws.Moved.{Later, either-way}
@@ -27,6 +26,6 @@ after-answer-later k b c calls l p q s e box =
     asked-after (s + k) (e + k) box c calls q ∙ cross-answer-later k (run b calls) (run c calls) (run-later k b c calls l p q) s e box ∙ sym (asked-after s e box b calls p)
 
 -- THE LAW
-pub after-answer-moved : (s : ℤ) (b : List ℕ) (calls : List Call) → AreBytes b → Movable trail s b → (start end : ℕ) (box : Box) → Stays s start → Stays s end
-    → after-answer (moved-record trail s b) calls (moved s start) (moved s end) box ≡ after-answer b calls start end box
+pub after-answer-moved : (s : ℤ) (b : List ℕ) (calls : List Call) → AreBytes b → Movable s b → (start end : ℕ) (box : Box) → Stays s start → Stays s end
+    → after-answer (moved-record s b) calls (moved s start) (moved s end) box ≡ after-answer b calls start end box
 after-answer-moved s b calls bytes stay start end box from to = either-way (λ b w v. after-answer b calls w v box) (λ k b c l p q w v. after-answer-later k b c calls l p q w v box) s b bytes stay start end from to

@@ -3,7 +3,7 @@ use mathlib.Core.Path.{_≡_, refl, sym, _∙_, ap}
 use mathlib.Core.Bool.{Bool, true, false, not, _&&_}
 use mathlib.Core.List.{List, [], _∷_}
 use mathlib.Core.Option.{Option, some, none}
-use Prim.Native.Nat.{ℕ, zero, suc, _+_, _*_, _<_, _≤_}
+use Prim.Native.Nat.{ℕ, zero, suc, _+_, _<_, _≤_}
 use native.Mathlib.Omega.{arith}
 use lib.Dec.{ltb, leb, eqb}
 use lib.ListN.{length, take}
@@ -15,10 +15,12 @@ use Rattle.distance.specs.Distance.{seconds}
 use Rattle.distance.specs.Laws.All.{All, all-none, all-more}
 use Rattle.distance.specs.Integers.Differences.{diffs}
 use Rattle.distance.specs.Integers.Order.{ltZ-false, le-of-ltZ}
-use Rattle.format.specs.Format.{trail, fix-at, record-bytes, length-field, mark-field, count-field, fixes}
+use Rattle.format.specs.Kinds.{Kind, kinds, coded}
+use Rattle.format.specs.Format.{kind-of, record-length, fix-at, record-bytes, length-field, mark-field, count-field, fixes}
 use Rattle.record.specs.Checks.{Asked, read-refusal, few-bytes, other-kind, bad-count, bad-length, short-record, bad-mark, sentence, first, head-checks, fix-checks, asked-of, nothing, IsAccepted, outside, fix-outside, some-outside, some-early-after, some-early, of-ends, too-long}
 use Rattle.record.specs.Laws.First.{passes, NoneHolds, no-check, and-not, none-holds, none-first, first-none}
 use Rattle.record.specs.Laws.Head.{Head, says, neither, accepted-head, not-few, not-other, count-good, length-same, not-short, mark-low, mark-never, mark-says, from-2, from-3, from-4, from-5, from-6, head-none}
+use Rattle.format.specs.Laws.Kinds.{kind-code, longer}
 use Rattle.format.specs.Laws.Numbers.{false-true}
 use Rattle.format.specs.Laws.RoundTrip.{Reads, AreBytes, number-below, rewrites}
 use Rattle.record.specs.Reading.{yields, moves, begins, past-every-fix, told-refusal}
@@ -26,76 +28,78 @@ use Rattle.record.specs.Laws.Reading.{stands-if, stands-past, yields-som
 use Rattle.distance.specs.Integers.Tests.{Test, holds, fails, test}
 
 -- ---- the fixes: checks 7 to 9 turn none away
-pub record GoodFixes (l : List Fix) : Type 0 where
-  pub inside : some-outside 16000 l ≡ false
+pub record GoodFixes (limit : ℕ) (l : List Fix) : Type 0 where
+  pub inside : some-outside limit l ≡ false
   pub ordered : some-early l ≡ false
   pub short : of-ends too-long l ≡ false
 
-pub fixes-good : (q : Asked) → first (sentence trail q) fix-checks ≡ none → GoodFixes (q .trail-fixes)
+pub fixes-good : (K : Kind) (q : Asked) → first (sentence K q) fix-checks ≡ none → GoodFixes (K .limit) (q .trail-fixes)
 unfolding sentence
-fixes-good q h = go (none-holds (sentence trail q) fix-checks h)
+fixes-good K q h = go (none-holds (sentence K q) fix-checks h)
   where
-    go : NoneHolds (sentence trail q) fix-checks → GoodFixes (q .trail-fixes)
+    go : NoneHolds (sentence K q) fix-checks → GoodFixes (K .limit) (q .trail-fixes)
     go (and-not h7 (and-not h8 (and-not h9 no-check))) = record { inside = h7; ordered = h8; short = h9 }
 
-pub good-fixes : (q : Asked) → GoodFixes (q .trail-fixes) → first (sentence trail q) fix-checks ≡ none
+pub good-fixes : (K : Kind) (q : Asked) → GoodFixes (K .limit) (q .trail-fixes) → first (sentence K q) fix-checks ≡ none
 unfolding first sentence
-good-fixes q h = rw (h .inside, h .ordered, h .short) refl
+good-fixes K q h = rw (h .inside, h .ordered, h .short) refl
 
 -- ---- the mark
-pub data GoodMark (m : ℕ) : Type 0 where
-  mark-applied : m ≤ 32000 → GoodMark m
-  mark-never-applied : m ≡ 65535 → GoodMark m
+pub data GoodMark (top m : ℕ) : Type 0 where
+  mark-applied : m ≤ top → GoodMark top m
+  mark-never-applied : m ≡ 65535 → GoodMark top m
 
-mark-good : (m : ℕ) → ltb 32000 m && not (eqb m 65535) ≡ false → GoodMark m
-mark-good m h = go (test m 32000)
+mark-good : (top m : ℕ) → ltb top m && not (eqb m 65535) ≡ false → GoodMark top m
+mark-good top m h = go (test m top)
   where
     second : (x y : Bool) → x ≡ true → x && y ≡ false → y ≡ false
     second true y e h = h
     second false y e h = absurd (false-true e)
 
-    go : {b : Bool} → Test m 32000 b → GoodMark m
+    go : {b : Bool} → Test m top b → GoodMark top m
     go (holds t) = mark-applied t
-    go (fails t) = mark-never-applied (eqb-true m 65535 (not-false _ (second (ltb 32000 m) (not (eqb m 65535)) (lt-ltb 32000 m t) h)))
+    go (fails t) = mark-never-applied (eqb-true m 65535 (not-false _ (second (ltb top m) (not (eqb m 65535)) (lt-ltb top m t) h)))
 
--- ---- what an accepted record gives
+-- ---- what an accepted record gives, by the limits of its own kind
 pub record Good (b : List ℕ) : Type 0 where
   pub head : Head b
-  pub mark : GoodMark (mark-field b)
-  pub trail-good : GoodFixes (fixes trail b)
+  pub mark : GoodMark (kind-of b .top) (mark-field b)
+  pub trail-good : GoodFixes (kind-of b .limit) (fixes b)
 
-pub accepted-good : (b : List ℕ) → IsAccepted trail b → Good b
+pub accepted-good : (b : List ℕ) → IsAccepted b → Good b
 accepted-good b h =
     let none-head = head-none b (h .accepted) in
     record {
       head = accepted-head b (h .accepted);
       mark = mark-of (none-holds (says b) head-checks none-head);
-      trail-good = fixes-good (asked-of trail b nothing) (sym (none-first (says b) head-checks fix-checks none-head) ∙ h .accepted);
+      trail-good = fixes-good (kind-of b) (asked-of b nothing) (sym (none-first (says b) head-checks fix-checks none-head) ∙ h .accepted);
     }
   where
-    mark-of : NoneHolds (says b) head-checks → GoodMark (mark-field b)
-    mark-of (and-not h1 (and-not h2 (and-not h3 (and-not h4 (and-not h5 (and-not h6 no-check)))))) = mark-good (mark-field b) (mark-says b h6)
+    mark-of : NoneHolds (says b) head-checks → GoodMark (kind-of b .top) (mark-field b)
+    mark-of (and-not h1 (and-not h2 (and-not h3 (and-not h4 (and-not h5 (and-not h6 no-check)))))) = mark-good (kind-of b .top) (mark-field b) (mark-says b h6)
 
 -- ---- a record that reads so is accepted
-mark-passes : (b : List ℕ) → GoodMark (mark-field b) → says b bad-mark ≡ false
+mark-passes : (b : List ℕ) → GoodMark (kind-of b .top) (mark-field b) → says b bad-mark ≡ false
 mark-passes b (mark-applied h) = mark-low b h
 mark-passes b (mark-never-applied h) = mark-never b h
 
-pub accept : (mark : ℕ) (l : List Fix) (b : List ℕ) → Reads mark l b → GoodMark mark → 1 ≤ length l → length l ≤ 4096 → 10 + 8 * length l ≤ length b → GoodFixes l → IsAccepted trail b
-accept mark l b r m one few whole g =
+pub accept : {K : Kind} {mark : ℕ} {l : List Fix} (b : List ℕ) → Reads K mark l b → coded kinds (K .code) ≡ true → GoodMark (K .top) mark → 1 ≤ length l → length l ≤ 4096 → record-length K (length l) ≤ length b
+    → GoodFixes (K .limit) l → IsAccepted b
+accept {K} {mark} {l} b r known m one few whole g =
     let n = r .count-reads in
     let len = r .length-reads in
+    let kind = r .kind-reads in
     let some-fix : count-field b ≡ 0 → ⊥ = λ e. omega arith in
-    let same : length-field b ≡ 10 + 8 * count-field b = omega arith in
-    let reads-mark : GoodMark (mark-field b) = rw (r .mark-reads) m in
+    let same : length-field b ≡ record-length (kind-of b) (count-field b) = rw (kind, n) len in
+    let reads-mark : GoodMark (kind-of b .top) (mark-field b) = rw (kind, r .mark-reads) m in
     let head : first (says b) head-checks ≡ none =
     passes (says b) few-bytes from-2 (not-few b (omega arith))
-    ∙ passes (says b) other-kind from-3 (not-other b (r .kind-reads))
+    ∙ passes (says b) other-kind from-3 (not-other b (ap (coded kinds) (r .code-reads) ∙ known))
     ∙ passes (says b) bad-count from-4 (count-good b some-fix (omega arith))
     ∙ passes (says b) bad-length from-5 (length-same b same)
     ∙ passes (says b) short-record from-6 (not-short b (omega arith))
     ∙ passes (says b) bad-mark [] (mark-passes b reads-mark) ∙ first-none (says b) in
-    record { accepted = none-first (says b) head-checks fix-checks head ∙ good-fixes (asked-of trail b nothing) (rw (r .fixes-read) g) }
+    record { accepted = none-first (says b) head-checks fix-checks head ∙ good-fixes (kind-of b) (asked-of b nothing) (rw (r .fixes-read, kind) g) }
 
 -- ---- the three checks of the fixes, as the layers above use them: places within the limit, times that rise, and a short span
 place-good : (limit : ℕ) (f : Fix) → fix-outside limit f ≡ false → Bounded limit f
@@ -146,36 +150,36 @@ span-good a l h =
     omega (arith, simp diffs at g)
 
 -- ---- an accepted record, written again with its own mark, is its own bytes
-pub rewritten : (b : List ℕ) → AreBytes b → IsAccepted trail b → record-bytes trail (mark-field b) (fixes trail b) ≡ take (length-field b) b
-rewritten b h a = let g = accepted-good b a .head in rewrites b h (g .length-is) (g .kind-is) (omega (arith, g .length-is, g .whole))
+pub rewritten : (b : List ℕ) → AreBytes b → IsAccepted b → record-bytes (kind-of b) (mark-field b) (fixes b) ≡ take (length-field b) b
+rewritten b h a = let g = accepted-good b a .head in rewrites b h (g .length-is) (kind-code b (g .known)) (omega (arith, g .length-is, g .whole))
 
 -- ---- THE READER of an accepted record: fix after fix, and then none, each time
-pub yields-fix : (b : List ℕ) (k : ℕ) → IsAccepted trail b → k < count-field b → yields trail b k ≡ some (fix-at trail b k)
-yields-fix b k a h = let g = accepted-good b a .head in yields-some b k (stands-if b k h ∙ le-leb (18 + 8 * k) (length b) (omega (arith, g .whole)))
+pub yields-fix : (b : List ℕ) (k : ℕ) → IsAccepted b → k < count-field b → yields b k ≡ some (fix-at (kind-of b) b k)
+yields-fix b k a h = let g = accepted-good b a .head in yields-some b k (stands-if b k (g .known) h ∙ le-leb (record-length (kind-of b) (suc k)) (length b) (omega (arith, g .whole, longer (kind-of b) (suc k) (count-field b) h)))
 
-pub yields-end : (b : List ℕ) (k : ℕ) → count-field b ≤ k → (yields trail b k ≡ none) × (moves trail b k ≡ k)
+pub yields-end : (b : List ℕ) (k : ℕ) → count-field b ≤ k → (yields b k ≡ none) × (moves b k ≡ k)
 yields-end b k h = (yields-none b k (stands-past b k h), moves-not b k (stands-past b k h))
 
 -- ---- A READER from its beginning: where it stands after i steps
 abbrev pub after-steps : ℕ → List ℕ → ℕ
-after-steps zero b = begins trail b
-after-steps (suc i) b = moves trail b (after-steps i b)
+after-steps zero b = begins b
+after-steps (suc i) b = moves b (after-steps i b)
 
 -- of an accepted record: at fix i, as long as there is one, so it yields the fixes in order ..
-pub steps-on : (b : List ℕ) → IsAccepted trail b → (i : ℕ) → i ≤ count-field b → after-steps i b ≡ i
+pub steps-on : (b : List ℕ) → IsAccepted b → (i : ℕ) → i ≤ count-field b → after-steps i b ≡ i
 steps-on b a zero h = rw (a .accepted) refl
 steps-on b a (suc i) h =
     let g = accepted-good b a .head in
-    ap (moves trail b) (steps-on b a i (omega arith)) ∙ moves-to-next b i (count-field b) (omega arith) (omega arith) (g .whole) ∙ sym-one i
+    ap (moves b) (steps-on b a i (omega arith)) ∙ moves-to-next b i (count-field b) (g .known) (omega arith) (omega arith) (g .whole) ∙ sym-one i
   where
     sym-one : (i : ℕ) → i + 1 ≡ suc i
     sym-one i = omega arith
 
-pub reader-yields : (b : List ℕ) → IsAccepted trail b → (i : ℕ) → i < count-field b → yields trail b (after-steps i b) ≡ some (fix-at trail b i)
+pub reader-yields : (b : List ℕ) → IsAccepted b → (i : ℕ) → i < count-field b → yields b (after-steps i b) ≡ some (fix-at (kind-of b) b i)
 reader-yields b a i h = rw (steps-on b a i (omega arith)) (yields-fix b i a h)
 
 -- .. and after the last it says that none is left, each time
-pub reader-ends : (b : List ℕ) → IsAccepted trail b → (j : ℕ) → yields trail b (after-steps (count-field b + j) b) ≡ none
+pub reader-ends : (b : List ℕ) → IsAccepted b → (j : ℕ) → yields b (after-steps (count-field b + j) b) ≡ none
 reader-ends b a j = yields-end b _ (stays j) .0
   where
     stays : (j : ℕ) → count-field b ≤ after-steps (count-field b + j) b
@@ -183,28 +187,28 @@ reader-ends b a j = yields-end b _ (stays j) .0
     stays (suc j) = let e : count-field b + suc j ≡ suc (count-field b + j) = omega arith in rw (e, yields-end b (after-steps (count-field b + j) b) (stays j) .1) (stays j)
 
 -- of refused bytes it yields none, each time: a count of two bytes is below the position at which it stands
-pub refused-yields-none : (b : List ℕ) (k : ℕ) → AreBytes b → read-refusal trail b ≡ some k → (i : ℕ) → (after-steps i b ≡ past-every-fix) × (yields trail b (after-steps i b) ≡ none)
+pub refused-yields-none : (b : List ℕ) (k : ℕ) → AreBytes b → read-refusal b ≡ some k → (i : ℕ) → (after-steps i b ≡ past-every-fix) × (yields b (after-steps i b) ≡ none)
 refused-yields-none b k h e i = (stood i, rw (stood i) (yields-end b past-every-fix below .0))
   where
     below : count-field b ≤ past-every-fix
-    below = omega (arith, number-below b 8 h)
+    below = omega (arith, number-below b 8 2 h)
 
     stood : (i : ℕ) → after-steps i b ≡ past-every-fix
     stood zero = rw e refl
-    stood (suc i) = ap (moves trail b) (stood i) ∙ yields-end b past-every-fix below .1
+    stood (suc i) = ap (moves b) (stood i) ∙ yields-end b past-every-fix below .1
 
 -- and it says the same of the checks at each of its steps
-pub reader-tells : (b : List ℕ) → AreBytes b → (i : ℕ) → told-refusal trail b (after-steps i b) ≡ read-refusal trail b
-reader-tells b h i = go (read-refusal trail b) refl
+pub reader-tells : (b : List ℕ) → AreBytes b → (i : ℕ) → told-refusal b (after-steps i b) ≡ read-refusal b
+reader-tells b h i = go (read-refusal b) refl
   where
-    within : IsAccepted trail b → (i : ℕ) → after-steps i b < past-every-fix
+    within : IsAccepted b → (i : ℕ) → after-steps i b < past-every-fix
     within a zero = rw (a .accepted) (omega arith)
     within a (suc i) = go-on (test (count-field b) (after-steps i b)) (within a i)
       where
-        go-on : {t : Bool} → Test (count-field b) (after-steps i b) t → after-steps i b < past-every-fix → moves trail b (after-steps i b) < past-every-fix
+        go-on : {t : Bool} → Test (count-field b) (after-steps i b) t → after-steps i b < past-every-fix → moves b (after-steps i b) < past-every-fix
         go-on (holds ended) w = rw (yields-end b (after-steps i b) ended .1) w
-        go-on (fails more) w = rw (moves-to-next b (after-steps i b) (count-field b) (omega arith) (omega arith) (accepted-good b a .head .whole)) (omega (arith, accepted-good b a .head .few-fixes))
+        go-on (fails more) w = rw (moves-to-next b (after-steps i b) (count-field b) (accepted-good b a .head .known) (omega arith) (omega arith) (accepted-good b a .head .whole)) (omega (arith, accepted-good b a .head .few-fixes))
 
-    go : (r : Option ℕ) → read-refusal trail b ≡ r → told-refusal trail b (after-steps i b) ≡ read-refusal trail b
+    go : (r : Option ℕ) → read-refusal b ≡ r → told-refusal b (after-steps i b) ≡ read-refusal b
     go none e = tells-accepted b (after-steps i b) (within (record { accepted = e }) i) ∙ sym e
     go (some k) e = tells-refusal b (after-steps i b) (rw (refused-yields-none b k h e i .0) (omega arith))

@@ -7,14 +7,14 @@ use Prim.Native.Nat.{ℕ}
 use lib.Dec.{leb}
 use Rattle.distance.specs.Fix.{Fix, last-of}
 use Rattle.distance.specs.Laws.All.{All, all-none, all-more, last-mapped}
-use Rattle.format.specs.Format.{trail}
+use Rattle.format.specs.Laws.Kinds.{same-kind-of}
 use Rattle.format.specs.Laws.Changed.{SameHead}
 use Rattle.record.specs.Checks.{Check, Given, sentence, first, head-checks, head-refusal, fix-outside, some-outside, some-early-after, some-early, of-ends}
 use Rattle.record.specs.Laws.First.{some-first, none-first}
 use Rattle.record.specs.Laws.Head.{asks}
 
 -- sentences that say the same find the same first check
-first-same : {says others : Check → Bool} {l : List Check} → All (λ (c : Check). others c ≡ says c) l → first others l ≡ first says l
+pub first-same : {says others : Check → Bool} {l : List Check} → All (λ (c : Check). others c ≡ says c) l → first others l ≡ first says l
 unfolding first
 first-same all-none = refl
 first-same (all-more h t) = rw (h, first-same t) refl
@@ -24,14 +24,14 @@ first-same (all-more h t) = rw (h, first-same t) refl
 module _ (b c : List ℕ) (same-head : SameHead b c) (g h : Given) where
   pub head-same : first (asks c h) head-checks ≡ first (asks b g) head-checks
   unfolding first sentence
-  head-same = rw (same-head .same-size, same-head .same-length, same-head .same-kind, same-head .same-mark, same-head .same-count) refl
+  head-same = rw (same-kind-of b c (same-head .same-kind), same-head .same-size, same-head .same-length, same-head .same-kind, same-head .same-mark, same-head .same-count) refl
 
   -- the head's checks ask for nothing that the call is handed
-  head-alone : first (asks b g) head-checks ≡ head-refusal trail b
+  head-alone : first (asks b g) head-checks ≡ head-refusal b
   unfolding first sentence
   head-alone = refl
 
-  pub changed-refusal : (l : List Check) → (head-refusal trail b ≡ none → All (λ (q : Check). asks c h q ≡ asks b g q) l) → first (asks c h) (head-checks ++ l) ≡ first (asks b g) (head-checks ++ l)
+  pub changed-refusal : (l : List Check) → (head-refusal b ≡ none → All (λ (q : Check). asks c h q ≡ asks b g q) l) → first (asks c h) (head-checks ++ l) ≡ first (asks b g) (head-checks ++ l)
   changed-refusal l same = go (first (asks b g) head-checks) refl
     where
       go : (r : Option ℕ) → first (asks b g) head-checks ≡ r → first (asks c h) (head-checks ++ l) ≡ first (asks b g) (head-checks ++ l)

@@ -6,9 +6,9 @@ use mathlib.Core.List.{List, [], _∷_, _++_, map}
 use mathlib.Core.Option.{Option, some, none}
 use Prim.Native.Nat.{ℕ}
 use native.Mathlib.Omega.{arith}
-use Rattle.format.specs.Format.{Kind}
+use Rattle.format.specs.Kinds.{Kind}
 use Rattle.record.specs.Answers.{gives, answer}
-use Rattle.record.specs.Checks.{Check, Given, Asked, number, order, first, FirstHolds, this, not-before, sentence, asked-of, refusal, reading, writing, aging, aging-by-days, placing, crossing, read-refusal}
+use Rattle.record.specs.Checks.{Check, Given, Asked, number, order, first, FirstHolds, this, not-before, sentence, refusal, refusal-of, reading, writing, aging, aging-by-days, placing, crossing, read-refusal}
 
 pub some-none : {k : ℕ} → some k ≡ none → ⊥
 some-none e = let z : _≡_ {A = ℕ} 0 1 = cc in omega arith
@@ -99,25 +99,25 @@ answer-same (some k) e = refl
 answer-same none e = ap gives (e refl)
 
 -- ---- a call's refusal does not hang on what the call does not take
-pub reading-alone : (K : Kind) (b : List ℕ) (g : Given) → refusal K reading (asked-of K b g) ≡ read-refusal K b
+pub reading-alone : (b : List ℕ) (g : Given) → refusal-of reading b g ≡ read-refusal b
 unfolding first sentence
-reading-alone K b g = refl
+reading-alone b g = refl
 
-pub days-alone : (K : Kind) (b : List ℕ) (g : Given) → refusal K aging-by-days (asked-of K b g) ≡ read-refusal K b
+pub days-alone : (b : List ℕ) (g : Given) → refusal-of aging-by-days b g ≡ read-refusal b
 unfolding first sentence
-days-alone K b g = refl
+days-alone b g = refl
 
-pub aging-alone : (K : Kind) (b : List ℕ) (g h : Given) → g .tolerance ≡ h .tolerance → refusal K aging (asked-of K b g) ≡ refusal K aging (asked-of K b h)
+pub aging-alone : (b : List ℕ) (g h : Given) → g .tolerance ≡ h .tolerance → refusal-of aging b g ≡ refusal-of aging b h
 unfolding first sentence
-aging-alone K b g h e = rw e refl
+aging-alone b g h e = rw e refl
 
-pub placing-alone : (K : Kind) (b : List ℕ) (g h : Given) → g .second ≡ h .second → g .thousandths ≡ h .thousandths → refusal K placing (asked-of K b g) ≡ refusal K placing (asked-of K b h)
+pub placing-alone : (b : List ℕ) (g h : Given) → g .second ≡ h .second → g .thousandths ≡ h .thousandths → refusal-of placing b g ≡ refusal-of placing b h
 unfolding first sentence
-placing-alone K b g h e f = rw (e, f) refl
+placing-alone b g h e f = rw (e, f) refl
 
-pub crossing-alone : (K : Kind) (b : List ℕ) (g h : Given) → g .start ≡ h .start → g .end ≡ h .end → g .box ≡ h .box → refusal K crossing (asked-of K b g) ≡ refusal K crossing (asked-of K b h)
+pub crossing-alone : (b : List ℕ) (g h : Given) → g .start ≡ h .start → g .end ≡ h .end → g .box ≡ h .box → refusal-of crossing b g ≡ refusal-of crossing b h
 unfolding first sentence
-crossing-alone K b g h e f k = rw (e, f, k) refl
+crossing-alone b g h e f k = rw (e, f, k) refl
 
 pub writing-alone : (K : Kind) (p q : Asked) → p .count ≡ q .count → p .trail-fixes ≡ q .trail-fixes → p .given .output ≡ q .given .output → refusal K writing p ≡ refusal K writing q
 unfolding first sentence

@@ -6,16 +6,22 @@ use mathlib.Core.Option.{some, none}
 use Prim.Native.Nat.{ℕ, suc, _+_, _-_, _<_, _≤_}
 use native.Mathlib.Omega.{arith}
 use lib.Dec.{leb}
-use lib.IntN.{pos}
+use lib.IntN.{ℤ, pos, negsuc, negℤ, _-ℤ_, +ℤ-idl}
+use lib.Signed.{_≤ℤ_}
+use mir.Syntax.{w32}
+use mir.Val.{SFits, toZ}
+use mir.Facts.{toZ-pos}
 use lib.ListN.{length}
 use Rattle.distance.specs.Fix.{Fix, last-of}
 use Rattle.distance.specs.Distance.{seconds}
 use Rattle.distance.specs.Laws.All.{All, all-none, all-more, all-append, last-more}
 use Rattle.distance.specs.Integers.Differences.{diffs}
 use Rattle.distance.specs.Integers.Order.{ltZ-true, ltZ-false}
+use Rattle.distance.specs.Integers.Bounds.{Bound, _⊝_, fits}
 use Rattle.record.specs.declared.Scan.{Scan}
-use Rattle.format.specs.Format.{trail, each}
-use Rattle.record.specs.Checks.{Asked, misplaced, unordered, long-span, first, sentence, fix-outside, some-outside, some-early-after, some-early, of-ends, too-long, fix-checks}
+use Rattle.format.specs.Kinds.{Kind}
+use Rattle.format.specs.Format.{each}
+use Rattle.record.specs.Checks.{Asked, misplaced, unordered, long-span, first, sentence, outside, fix-outside, some-outside, some-early-after, some-early, of-ends, too-long, fix-checks}
 use Rattle.format.specs.Laws.Each.{each-more}
 use Rattle.record.specs.Laws.First.{stops, passes}
 
@@ -27,9 +33,35 @@ pub none-timed : (l : List Fix) → length l ≡ 0 → All Timed l
 none-timed [] h = all-none
 none-timed (f ∷ l) h = absurd (omega arith)
 
+-- a coordinate of 32 bits and a limit, compared in 32 bits: one that these hold, ..
+pub record OutsideFits (limit : ℕ) : Type 0 where
+  pub far : toZ w32 limit ≡ pos limit
+  pub minus : SFits w32 (pos 0 -ℤ pos limit)
+
+pub outside-fits : {limit : ℕ} → limit ≤ 2147483647 → OutsideFits limit
+outside-fits {limit} h =
+    let far : Bound (pos limit) = record { top = 2147483647; holds = h } in
+    let none : Bound (pos 0) = record { top = 0; holds = omega arith } in
+    record { far = toZ-pos w32 (omega arith); minus = fits w32 (none ⊝ far) tt }
+
+-- .. and one that they don't, which nothing is outside of
+pub none-outside : (z : ℤ) (limit : ℕ) → SFits w32 z → 2147483647 < limit → false ≡ outside limit z
+none-outside z limit f h = rw (ltZ-false {x = z} {y = negℤ (pos limit)} (low z f), ltZ-false {x = pos limit} {y = z} (high z f)) refl
+  where
+    low : (z : ℤ) → SFits w32 z → negℤ (pos limit) ≤ℤ z
+    low (pos n) f = simp diffs (omega arith)
+    low (negsuc n) f = simp diffs (omega (arith, f .sfits))
+
+    high : (z : ℤ) → SFits w32 z → z ≤ℤ pos limit
+    high (pos n) f = simp diffs (omega (arith, f .sfits))
+    high (negsuc n) f = simp diffs (omega arith)
+
+pub from-zero : (n : ℕ) → pos 0 -ℤ pos n ≡ negℤ (pos n)
+from-zero n = +ℤ-idl (negℤ (pos n))
+
 -- the pass has seen the fixes a ∷ l
-pub record Scanned (a : Fix) (l : List Fix) (s : Scan) : Type 0 where
-  pub outside-is : s .outside ≡ some-outside 16000 (a ∷ l)
+pub record Scanned (limit : ℕ) (a : Fix) (l : List Fix) (s : Scan) : Type 0 where
+  pub outside-is : s .outside ≡ some-outside limit (a ∷ l)
   pub early-is : s .early ≡ some-early (a ∷ l)
   pub first-is : s .first .0 ≡ a .t
   pub last-is : s .last .0 ≡ (last-of a l) .t
@@ -44,25 +76,25 @@ or-false true = refl
 or-false false = refl
 
 -- one fix more, at the end
-outside-more : (l : List Fix) (f : Fix) → some-outside 16000 (l ++ f ∷ []) ≡ some-outside 16000 l || fix-outside 16000 f
+outside-more : (limit : ℕ) (l : List Fix) (f : Fix) → some-outside limit (l ++ f ∷ []) ≡ some-outside limit l || fix-outside limit f
 unfolding some-outside
-outside-more [] f = or-false _
-outside-more (a ∷ l) f = ap (λ (t : Bool). fix-outside 16000 a || t) (outside-more l f) ∙ sym (or-assoc (fix-outside 16000 a) (some-outside 16000 l) (fix-outside 16000 f))
+outside-more limit [] f = or-false _
+outside-more limit (a ∷ l) f = ap (λ (t : Bool). fix-outside limit a || t) (outside-more limit l f) ∙ sym (or-assoc (fix-outside limit a) (some-outside limit l) (fix-outside limit f))
 
 early-more : (a : Fix) (l : List Fix) (f : Fix) → some-early-after (a .t) (l ++ f ∷ []) ≡ some-early-after (a .t) l || leb (f .t) ((last-of a l) .t)
 unfolding some-early-after last-of
 early-more a [] f = or-false _
 early-more a (b ∷ l) f = ap (λ (t : Bool). leb (b .t) (a .t) || t) (early-more b l f) ∙ sym (or-assoc (leb (b .t) (a .t)) (some-early-after (b .t) l) (leb (f .t) ((last-of b l) .t)))
 
-pub scanned-first : (a : Fix) (s : Scan) → s .outside ≡ fix-outside 16000 a → s .early ≡ false → s .first .0 ≡ a .t → s .last .0 ≡ a .t → a .t < 4294967296 → Scanned a [] s
+pub scanned-first : (limit : ℕ) (a : Fix) (s : Scan) → s .outside ≡ fix-outside limit a → s .early ≡ false → s .first .0 ≡ a .t → s .last .0 ≡ a .t → a .t < 4294967296 → Scanned limit a [] s
 unfolding some-outside some-early some-early-after last-of
-scanned-first a s p q r t h = record { outside-is = p ∙ sym (or-false _); early-is = q; first-is = r; last-is = t; timed = all-more (record { t32 = h }) all-none }
+scanned-first limit a s p q r t h = record { outside-is = p ∙ sym (or-false _); early-is = q; first-is = r; last-is = t; timed = all-more (record { t32 = h }) all-none }
 
-pub scanned-more : (a : Fix) (l : List Fix) (f : Fix) (s r : Scan) → Scanned a l s → r .outside ≡ s .outside || fix-outside 16000 f → r .early ≡ s .early || leb (f .t) (s .last .0)
-    → r .first .0 ≡ s .first .0 → r .last .0 ≡ f .t → f .t < 4294967296 → Scanned a (l ++ f ∷ []) r
+pub scanned-more : (limit : ℕ) (a : Fix) (l : List Fix) (f : Fix) (s r : Scan) → Scanned limit a l s → r .outside ≡ s .outside || fix-outside limit f → r .early ≡ s .early || leb (f .t) (s .last .0)
+    → r .first .0 ≡ s .first .0 → r .last .0 ≡ f .t → f .t < 4294967296 → Scanned limit a (l ++ f ∷ []) r
 unfolding some-early
-scanned-more a l f s r h p q u v w = record {
-  outside-is = p ∙ ap (λ (t : Bool). t || fix-outside 16000 f) (h .outside-is) ∙ sym (outside-more (a ∷ l) f);
+scanned-more limit a l f s r h p q u v w = record {
+  outside-is = p ∙ ap (λ (t : Bool). t || fix-outside limit f) (h .outside-is) ∙ sym (outside-more limit (a ∷ l) f);
   early-is = q ∙ rw (h .early-is, h .last-is) (sym (early-more a l f));
   first-is = u ∙ h .first-is;
   last-is = v ∙ rw (last-more a l f) refl;
@@ -70,12 +102,12 @@ scanned-more a l f s r h p q u v w = record {
 }
 
 -- ---- the loop over positions: the fixes 0 to k − 1 are passed
-pub scanned-start : (f : ℕ → Fix) (a : Fix) (s : Scan) → a ≡ f 0 → Scanned a [] s → Scanned (f 0) (each f 1 (1 - 1)) s
+pub scanned-start : (limit : ℕ) (f : ℕ → Fix) (a : Fix) (s : Scan) → a ≡ f 0 → Scanned limit a [] s → Scanned limit (f 0) (each f 1 (1 - 1)) s
 unfolding each
-scanned-start f a s e h = rw e at h
+scanned-start limit f a s e h = rw e at h
 
-pub scanned-step : (f : ℕ → Fix) (k : ℕ) (a : Fix) (r : Scan) → 1 ≤ k → a ≡ f k → Scanned (f 0) (each f 1 (k - 1) ++ a ∷ []) r → Scanned (f 0) (each f 1 (k + 1 - 1)) r
-scanned-step f k a r p e h =
+pub scanned-step : (limit : ℕ) (f : ℕ → Fix) (k : ℕ) (a : Fix) (r : Scan) → 1 ≤ k → a ≡ f k → Scanned limit (f 0) (each f 1 (k - 1) ++ a ∷ []) r → Scanned limit (f 0) (each f 1 (k + 1 - 1)) r
+scanned-step limit f k a r p e h =
     let m : k + 1 - 1 ≡ suc (k - 1) = omega arith in
     let n : 1 + (k - 1) ≡ k = omega arith in
     rw (m, each-more f 1 (k - 1), n, ← e) h
@@ -88,30 +120,30 @@ long-false : (a b : Fix) → b .t ≤ a .t + 65535 → too-long a b ≡ false
 long-false a b h = ltZ-false {x = pos 65535} {y = seconds a b} (simp diffs (omega arith))
 
 -- the three checks of a call whose fixes were passed
-module _ (q : Asked) (a : Fix) (l : List Fix) (s : Scan) (is : q .trail-fixes ≡ a ∷ l) (h : Scanned a l s) where
-  outside-says : sentence trail q misplaced ≡ s .outside
+module _ (K : Kind) (q : Asked) (a : Fix) (l : List Fix) (s : Scan) (is : q .trail-fixes ≡ a ∷ l) (h : Scanned (K .limit) a l s) where
+  outside-says : sentence K q misplaced ≡ s .outside
   unfolding sentence
   outside-says = rw is (sym (h .outside-is))
 
-  early-says : sentence trail q unordered ≡ s .early
+  early-says : sentence K q unordered ≡ s .early
   unfolding sentence
   early-says = rw is (sym (h .early-is))
 
-  long-says : (b : Bool) → too-long a (last-of a l) ≡ b → sentence trail q long-span ≡ b
+  long-says : (b : Bool) → too-long a (last-of a l) ≡ b → sentence K q long-span ≡ b
   unfolding sentence of-ends
   long-says b e = rw is e
 
-  pub says-7 : s .outside ≡ true → first (sentence trail q) fix-checks ≡ some 7
+  pub says-7 : s .outside ≡ true → first (sentence K q) fix-checks ≡ some 7
   says-7 e = stops _ misplaced _ (outside-says ∙ e)
 
-  pub says-8 : s .outside ≡ false → s .early ≡ true → first (sentence trail q) fix-checks ≡ some 8
+  pub says-8 : s .outside ≡ false → s .early ≡ true → first (sentence K q) fix-checks ≡ some 8
   says-8 e f = passes _ misplaced _ (outside-says ∙ e) ∙ stops _ unordered _ (early-says ∙ f)
 
-  pub says-9 : s .outside ≡ false → s .early ≡ false → s .first .0 + 65535 < s .last .0 → first (sentence trail q) fix-checks ≡ some 9
+  pub says-9 : s .outside ≡ false → s .early ≡ false → s .first .0 + 65535 < s .last .0 → first (sentence K q) fix-checks ≡ some 9
   says-9 e f g = passes _ misplaced _ (outside-says ∙ e) ∙ passes _ unordered _ (early-says ∙ f)
       ∙ stops _ long-span _ (long-says true (long-true a (last-of a l) (omega (arith, h .first-is, h .last-is))))
 
-  pub says-none : s .outside ≡ false → s .early ≡ false → s .last .0 ≤ s .first .0 + 65535 → first (sentence trail q) fix-checks ≡ none
+  pub says-none : s .outside ≡ false → s .early ≡ false → s .last .0 ≤ s .first .0 + 65535 → first (sentence K q) fix-checks ≡ none
   unfolding first
-  says-none e f g = passes (sentence trail q) misplaced (unordered ∷ long-span ∷ []) (outside-says ∙ e) ∙ passes (sentence trail q) unordered (long-span ∷ []) (early-says ∙ f)
-      ∙ passes (sentence trail q) long-span [] (long-says false (long-false a (last-of a l) (omega (arith, h .first-is, h .last-is))))
+  says-none e f g = passes (sentence K q) misplaced (unordered ∷ long-span ∷ []) (outside-says ∙ e) ∙ passes (sentence K q) unordered (long-span ∷ []) (early-says ∙ f)
+      ∙ passes (sentence K q) long-span [] (long-says false (long-false a (last-of a l) (omega (arith, h .first-is, h .last-is))))

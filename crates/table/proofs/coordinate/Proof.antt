@@ -1,11 +1,11 @@
-use mir.Syntax.{w16}
+use mir.Syntax.{w32}
 use Rattle.table.specs.Signs.{widened}
 use borrow.Author.Needs.{needs}
 use Rattle.table.proofs.coordinate.Statement.{statement}
 use Rattle.table.proofs.coordinate.Tie as tie
 
 cast-whole : tie.Need-cast-whole
-cast-whole c = widened {w = w16} {z = c .before .before .args .c .0} tt (search needs)
+cast-whole c = widened {w = w32} {z = c .before .before .args .c .0} tt (search needs)
 
 whole-requires : tie.Need-whole-requires
 whole-requires c κs = search needs

@@ -2,7 +2,7 @@ use mathlib.Core.Path.{_≡_, sym, _∙_, ap}
 use mathlib.Core.Option.{Option, none}
 use Prim.Native.Nat.{ℕ}
 use denote.Ref.{now}
-use Rattle.format.specs.Format.{trail, count-field}
+use Rattle.format.specs.Format.{count-field}
 use Rattle.record.specs.Checks.{read-refusal}
 use Rattle.record.specs.Answers.{refused}
 use Rattle.record.specs.Laws.Head.{accepted-head}
@@ -12,7 +12,7 @@ use Rattle.text.proofs.lines_in.Statement.{statement}
 use Rattle.text.proofs.lines_in.Tie as tie
 
 -- in the second arm the record is accepted
-told : (c : tie.After-enum-told2) → none ≡ read-refusal trail (now (c .before .before .before .args .b))
+told : (c : tie.After-enum-told2) → none ≡ read-refusal (now (c .before .before .before .args .b))
 told c = sym (ap refused (c .enum-told2 .given .1)) ∙ c .before .before .before .pre
 
 enum-told : tie.Need-enum-told

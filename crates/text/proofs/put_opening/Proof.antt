@@ -2,7 +2,6 @@ use mathlib.Core.Path.{_≡_, sym, _∙_, ap}
 use mathlib.Core.Option.{some, none}
 use native.Mathlib.Omega.{arith}
 use denote.Ref.{now}
-use Rattle.format.specs.Format.{trail}
 use Rattle.record.specs.Checks.{read-refusal}
 use Rattle.record.specs.Answers.{refused}
 use Rattle.record.specs.Laws.Head.{accepted-head}
@@ -11,7 +10,7 @@ use Rattle.text.proofs.put_opening.Statement.{statement}
 use Rattle.text.proofs.put_opening.Tie as tie
 
 -- in the second arm the record is accepted
-told : (c : tie.After-enum-told) → none ≡ read-refusal trail (now (c .before .before .before .before .args .b))
+told : (c : tie.After-enum-told) → none ≡ read-refusal (now (c .before .before .before .before .args .b))
 told c = sym (ap refused (c .enum-told .given .1)) ∙ c .before .before .before .before .pre .0
 
 enum-known-v : tie.Need-enum-known-v
@@ -39,7 +38,7 @@ same-length : tie.Need-same-length
 same-length c = search needs
 
 returns : tie.Need-returns
-returns c = let t : some _ ≡ read-refusal trail (now (c .before .before .before .before .before .before .before .before .before .args .b)) = (sym (ap refused (c .before .before .before .before .before .v .given .1)) ∙ c .before .before .before .before .before .before .before .before .before .pre .0) in (rw (← t) (c .before .before .put-refusal .ensures .0), omega (arith, c .before .before .put-refusal .ensures .1))
+returns c = let t : some _ ≡ read-refusal (now (c .before .before .before .before .before .before .before .before .before .args .b)) = (sym (ap refused (c .before .before .before .before .before .v .given .1)) ∙ c .before .before .before .before .before .before .before .before .before .pre .0) in (rw (← t) (c .before .before .put-refusal .ensures .0), omega (arith, c .before .before .put-refusal .ensures .1))
 
 same-length-2 : tie.Need-same-length-2
 same-length-2 c = search needs

@@ -8,7 +8,7 @@ enum-known-s : tie.Need-enum-known-s
 enum-known-s c = search needs
 
 put-fix-line-requires : tie.Need-put-fix-line-requires
-put-fix-line-requires c κs = search needs
+put-fix-line-requires c κs = let p = c .before .before .before .before .before .pre in (p .0, rw (c .before .before .s .given .1) at (p .1))
 
 enum-told : tie.Need-enum-told
 enum-told c = search needs

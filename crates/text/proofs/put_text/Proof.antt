@@ -60,13 +60,12 @@ use denote.Triple.Walked.{says, needs, Stays, stay-none-slice, stay-slice, walkO
 use denote.Exit.{yes}
 use borrow.Author.Tests.{ltb-true, ltb-false}
 use borrow.Within.Token.{Rest, within-token, within-end}
-use Rattle.format.specs.Format.{trail}
 use Rattle.record.specs.Checks.{read-refusal}
 use Rattle.record.specs.Reading.{yields, moves, begins, told-refusal}
 use Rattle.record.specs.Answers.{found, refused}
 use Rattle.text.specs.Text.{text}
 use Rattle.record.specs.Laws.Reading.{begins-tells}
-use Rattle.text.specs.Laws.Text.{Stored, step-text, LinesPut, lines-begin, lines-onward, opening-text, lines-in, closing-text, few-lines, line-yields, line-moves, text-put}
+use Rattle.text.specs.Laws.Text.{Stored, step-text, LinesPut, step-bounded, lines-begin, lines-onward, opening-text, lines-in, closing-text, few-lines, line-bounded, line-yields, line-moves, text-put}
 use Rattle.record.specs.declared.reading.Reader.{Reader}
 use Rattle.record.specs.declared.Step.{Step}
 use Rattle.record.specs.declared.Checked.{Checked}
@@ -127,10 +126,10 @@ record St (s : RefT (List ℕ)) (ys : List ℕ) (p : ℕ) : Type 0 where
   h : Reader
   end : ℕ
   zs : List ℕ
-  within : k ≤ lines-in trail (now s)
+  within : k ≤ lines-in (now s)
   as-long : length zs ≡ length ys
   bytes-is : h .bytes ≡ s
-  at-is : h .at ≡ begins trail (now s) + k
+  at-is : h .at ≡ begins (now s) + k
   put : LinesPut (now s) ys p k end zs
 
 module _ {M : Type 1} (𝓤 : URA M) (H : Heap 𝓤) (A : Atoms 𝓤) (mem : Memory → SProp 𝓤) (run : Routine → Fun 𝓤) where
@@ -157,10 +156,10 @@ module _ {M : Type 1} (𝓤 : URA M) (H : Heap 𝓤) (A : Atoms 𝓤) (mem : Mem
   PutClosing = tripleOf 𝓤 H A put-closing.signature (put-closing.spec 𝓤 H A mem run)
 
 module _ {M : Type 1} (𝓤 : URA M) (H : Heap 𝓤) (A : Atoms 𝓤) (W : Given 𝓤 H A) (at-mem : Memory → SProp 𝓤) (run : Routine → Fun 𝓤) (κ κ′ : Lft) (q q′ : Share) (b o : ℕ) (γ : GName) (ys : List ℕ) (s : RefT (List ℕ))
-    (room : Room u8 (length ys)) (long : 118805 ≤ length ys) where
+    (room : Room u8 (length ys)) (long : 126997 ≤ length ys) where
   -- how many lines of fixes there are
   abbrev n : ℕ
-  n = lines-in trail (now s)
+  n = lines-in (now s)
 
   n-fits : n < 2 ^ 64
   n-fits = lt-of-le-of-lt (few-lines (now s)) (lit< tt)
@@ -214,7 +213,7 @@ module _ {M : Type 1} (𝓤 : URA M) (H : Heap 𝓤) (A : Atoms 𝓤) (W : Given
   abbrev qr : Share
   qr = PosShare·right q′
 
-  exits : (e : ℕ) (l : List ℕ) → e < 2 ^ 64 → length l ≡ length ys → Stored ys 0 l e (text trail (now s)) × (e ≤ 118805) → ent 𝓤 (⋆ 𝓤 H A ((‵ (flft κ′ q′) ⊛ ‵ ftrue) ∷ ‵ Own ∷ ‵ (OwnOut l (length ys)) ∷ ‵ (flft κ q) ∷ [])) (Post (vint w64 e))
+  exits : (e : ℕ) (l : List ℕ) → e < 2 ^ 64 → length l ≡ length ys → Stored ys 0 l e (text (now s)) × (e ≤ 126997) → ent 𝓤 (⋆ 𝓤 H A ((‵ (flft κ′ q′) ⊛ ‵ ftrue) ∷ ‵ Own ∷ ‵ (OwnOut l (length ys)) ∷ ‵ (flft κ q) ∷ [])) (Post (vint w64 e))
   exits e l fits len put =
       qed W ((‵ (flft κ′ q′) ⊛ ‵ ftrue) ∷ ‵ Own ∷ ‵ (OwnOut l (length ys)) ∷ ‵ (flft κ q) ∷ []) ∵
       suffices ! _ (ends-at 𝓤 H A put-text.ended stayed (put-text.clauses 𝓤 H A at-mem run) W (((κ, (κ′, tt)), (q, (q′, tt)), tt, args, vals), tt) (vint w64 e) e (l, (tt, tt)) (len, (tt, tt))) $ says ! put $
@@ -253,13 +252,13 @@ module _ {M : Type 1} (𝓤 : URA M) (H : Heap 𝓤) (A : Atoms 𝓤) (W : Given
   goes-next ν l δ h = qed W ((‵ (flft (ν ∷ κ′) ql) ⊛ ‵ (flft κ′ qr) ⊛ ‵ ftrue) ∷ ‵ (OwnLent ν l δ h) ∷ []) ∵ nothing ! $ move ! (2 ∷ 0 ∷ []) $ fjoin ! $ move ! (1 ∷ 0 ∷ []) $ join ! $ frame ! $ done !
 
   abbrev Stepped : Reader → Step → Reader → Type 0
-  Stepped h x h′ = (found x ≡ yields trail (now (h .bytes)) (h .at)) × (h′ .bytes ≡ h .bytes) × (h′ .at ≡ moves trail (now (h .bytes)) (h .at))
+  Stepped h x h′ = (found x ≡ yields (now (h .bytes)) (h .at)) × (h′ .bytes ≡ h .bytes) × (h′ .at ≡ moves (now (h .bytes)) (h .at))
 
   -- the call of `put_step`, on the output l lent for ν under δ
   abbrev to-put : ℕ → GName → List ℕ → ℕ → Step → Val → PutStep 𝓤 H A at-mem run .Ghost
   to-put ν δ l e x u = (((ν ∷ [], tt), (fullShare, tt), tt, (bytes-at b o δ l, (e, (x, tt))), (v′ (length l) ∷ [], (vint w64 e ∷ [], (u ∷ [], tt)))), tt)
 
-  goes-put : (ν : ℕ) (δ : GName) (l : List ℕ) (e : ℕ) (x : Step) (u : Val) → e < 2 ^ 64 → e + 29 ≤ length l
+  goes-put : (ν : ℕ) (δ : GName) (l : List ℕ) (e : ℕ) (x : Step) (u : Val) → e < 2 ^ 64 → (e + 31 ≤ length l) × step-bounded (found x)
       → ent 𝓤 (⋆ 𝓤 H A (‵ (flft (ν ∷ []) fullShare) ∷ ‵ (HeldBytes (named 0) (ν ∷ []) b o (length l) δ l) ∷ ‵ (S.the-row .own x (u ∷ [])) ∷ [])) (PutStep 𝓤 H A at-mem run .pre (to-put ν δ l e x u))
   goes-put ν δ l e x u fits enough =
       qed W (‵ (flft (ν ∷ []) fullShare) ∷ ‵ (HeldBytes (named 0) (ν ∷ []) b o (length l) δ l) ∷ ‵ (S.the-row .own x (u ∷ [])) ∷ []) ∵
@@ -267,7 +266,7 @@ module _ {M : Type 1} (𝓤 : URA M) (H : Heap 𝓤) (A : Atoms 𝓤) (W : Given
       nothing ! $ move ! (2 ∷ 0 ∷ []) $ join ! $ says ! enough $ frame ! $ done !
 
   abbrev Put : List ℕ → ℕ → Step → ℕ → List ℕ → Type 0
-  Put l e x e′ l′ = Stored l e l′ e′ (step-text (found x)) × (e′ ≤ e + 29)
+  Put l e x e′ l′ = Stored l e l′ e′ (step-text (found x)) × (e′ ≤ e + 31)
 
   -- a verdict's machine value has its type
   typed-verdict : (t : Checked) (u : Val) → Is Verdict.the-row t (u ∷ []) → Holds (hasTy Verdict′.mir u) × WT u
@@ -284,7 +283,7 @@ module _ {M : Type 1} (𝓤 : URA M) (H : Heap 𝓤) (A : Atoms 𝓤) (W : Given
       use2 W (raw (Read 𝓤 H A at-mem run .pre to-read)) (qed W ((‵ (flft κ′ q′) ⊛ ‵ ftrue) ∷ ‵ (owns (ShrSlice (named 0) κ′ u8 ∷ []) (s, tt) (v ∷ [], tt)) ∷ []) ∵ join ! $ frame ! $ done !) $ frame ! $ done !
 
   abbrev Begun : Reader → Type 0
-  Begun r = (r .bytes ≡ s) × (r .at ≡ begins trail (now s))
+  Begun r = (r .bytes ≡ s) × (r .at ≡ begins (now s))
 
   read-said : (r : Reader) → ent 𝓤 (ensured 𝓤 H A read.ended (read.clauses 𝓤 H A at-mem run) (κ′, tt) (s, tt) tt r) (fact 𝓤 (Begun r))
   read-said r = exE 𝓤 _ (λ ws. snd∗ 𝓤 (sem 𝓤 H A (lasts read.ended (κ′, tt) (s, tt) ws)) (fact 𝓤 (Begun r)))
@@ -297,20 +296,20 @@ module _ {M : Type 1} (𝓤 : URA M) (H : Heap 𝓤) (A : Atoms 𝓤) (W : Given
   goes-said r u = qed W ((‵ (flft κ′ q′) ⊛ ‵ ftrue) ∷ ‵ (B .own r (u ∷ [])) ∷ []) ∵ nothing ! $ move ! (2 ∷ 0 ∷ []) $ fjoin ! $ move ! (1 ∷ 0 ∷ []) $ join ! $ frame ! $ done !
 
   abbrev Told : Reader → Checked → Type 0
-  Told r t = refused t ≡ told-refusal trail (now (r .bytes)) (r .at)
+  Told r t = refused t ≡ told-refusal (now (r .bytes)) (r .at)
 
   said-said : (r : Reader) (t : Checked) → ent 𝓤 (ensured 𝓤 H A said.ended (said.clauses 𝓤 H A at-mem run) (κ′, tt) (r, tt) tt t) (fact 𝓤 (Told r t))
   said-said r t = exE 𝓤 _ (λ ws. snd∗ 𝓤 (sem 𝓤 H A (lasts said.ended (κ′, tt) (r, tt) ws)) (fact 𝓤 (Told r t)))
 
   -- a reader that has just begun says what the checks say
-  verdict-is : (r : Reader) (t : Checked) → Begun r → Told r t → refused t ≡ read-refusal trail (now s)
-  verdict-is r t begun told = told ∙ (λ j. told-refusal trail (now (begun .0 j)) (begun .1 j)) ∙ begins-tells (now s)
+  verdict-is : (r : Reader) (t : Checked) → Begun r → Told r t → refused t ≡ read-refusal (now s)
+  verdict-is r t begun told = told ∙ (λ j. told-refusal (now (begun .0 j)) (begun .1 j)) ∙ begins-tells (now s)
 
   -- the call of `lines_in`, on the bytes and the verdict t with the machine value u
   abbrev to-lines : Checked → Val → LinesIn 𝓤 H A at-mem run .Ghost
   to-lines t u = (((κ′, tt), (q′, tt), tt, (s, (t, tt)), (v ∷ [], (u ∷ [], tt))), tt)
 
-  goes-lines : (t : Checked) (u : Val) → Is Verdict.the-row t (u ∷ []) → refused t ≡ read-refusal trail (now s) → ent 𝓤 (⋆ 𝓤 H A ((‵ (flft κ′ q′) ⊛ ‵ ftrue) ∷ ‵ Own ∷ [])) (sep 𝓤 (LinesIn 𝓤 H A at-mem run .pre (to-lines t u)) (sem 𝓤 H A Own))
+  goes-lines : (t : Checked) (u : Val) → Is Verdict.the-row t (u ∷ []) → refused t ≡ read-refusal (now s) → ent 𝓤 (⋆ 𝓤 H A ((‵ (flft κ′ q′) ⊛ ‵ ftrue) ∷ ‵ Own ∷ [])) (sep 𝓤 (LinesIn 𝓤 H A at-mem run .pre (to-lines t u)) (sem 𝓤 H A Own))
   goes-lines t u is e =
       qed W ((‵ (flft κ′ q′) ⊛ ‵ ftrue) ∷ ‵ Own ∷ []) ∵ move ! (1 ∷ []) $ use1 W (‵ Own ⊛ ‵ Own) (shr-slice-copy 𝓤 H A W (named 1) κ′ u8 .twice s (v ∷ [])) $ split ! $
       nothing ! $ owned ! Verdict.the-row (Is Verdict.the-row) (EL.makes Verdict.the-type Verdict′.the-plain 𝓤 H A) t _ is $ fjoin ! $ move ! (1 ∷ 0 ∷ []) $ fjoin ! $ move ! (2 ∷ 0 ∷ []) $
@@ -323,7 +322,7 @@ module _ {M : Type 1} (𝓤 : URA M) (H : Heap 𝓤) (A : Atoms 𝓤) (W : Given
   abbrev to-opening : ℕ → GName → Checked → Val → PutOpening 𝓤 H A at-mem run .Ghost
   to-opening ν δ t u = (((ν ∷ [], (κ′, tt)), (fullShare, (q′, tt)), tt, (bytes-at b o δ ys, (s, (t, tt))), (v′ (length ys) ∷ [], (v ∷ [], (u ∷ [], tt)))), tt)
 
-  goes-opening : (ν : ℕ) (δ : GName) (t : Checked) (u : Val) → Is Verdict.the-row t (u ∷ []) → refused t ≡ read-refusal trail (now s)
+  goes-opening : (ν : ℕ) (δ : GName) (t : Checked) (u : Val) → Is Verdict.the-row t (u ∷ []) → refused t ≡ read-refusal (now s)
       → ent 𝓤 (⋆ 𝓤 H A ((‵ (flft κ′ q′) ⊛ ‵ ftrue) ∷ ‵ Own ∷ (‵ (flft (ν ∷ []) fullShare) ⊛ ‵ (HeldBytes (named 0) (ν ∷ []) b o (length ys) δ ys)) ∷ [])) (sep 𝓤 (PutOpening 𝓤 H A at-mem run .pre (to-opening ν δ t u)) (sem 𝓤 H A Own))
   goes-opening ν δ t u is e =
       qed W ((‵ (flft κ′ q′) ⊛ ‵ ftrue) ∷ ‵ Own ∷ (‵ (flft (ν ∷ []) fullShare) ⊛ ‵ (HeldBytes (named 0) (ν ∷ []) b o (length ys) δ ys)) ∷ []) ∵
@@ -339,7 +338,7 @@ module _ {M : Type 1} (𝓤 : URA M) (H : Heap 𝓤) (A : Atoms 𝓤) (W : Given
           says ! (e, omega (arith, long)) $ frame ! $ done !
 
   abbrev Opened : ℕ → List ℕ → Type 0
-  Opened p l = Stored ys 0 l p (opening-text trail (now s)) × (p ≤ 17)
+  Opened p l = Stored ys 0 l p (opening-text (now s)) × (p ≤ 17)
 
   -- the call of `put_closing`, on the output l lent for ν under δ
   abbrev to-closing : ℕ → GName → List ℕ → ℕ → Checked → Val → PutClosing 𝓤 H A at-mem run .Ghost
@@ -356,7 +355,7 @@ module _ {M : Type 1} (𝓤 : URA M) (H : Heap 𝓤) (A : Atoms 𝓤) (W : Given
   Closed l e t e′ l′ = Stored l e l′ e′ (closing-text (refused t)) × (e′ ≤ e + 4)
 
   -- the verdict t with the machine value u, and where the opening line ended
-  module _ (t : Checked) (uv : Val) (is-t : Is Verdict.the-row t (uv ∷ [])) (told : refused t ≡ read-refusal trail (now s)) (p : ℕ) (ys₁ : List ℕ) (opened : Opened p ys₁) (len₁ : length ys₁ ≡ length ys) where
+  module _ (t : Checked) (uv : Val) (is-t : Is Verdict.the-row t (uv ∷ [])) (told : refused t ≡ read-refusal (now s)) (p : ℕ) (ys₁ : List ℕ) (opened : Opened p ys₁) (len₁ : length ys₁ ≡ length ys) where
     abbrev Z : Type 0
     Z = St s ys₁ p
 
@@ -372,24 +371,30 @@ module _ {M : Type 1} (𝓤 : URA M) (H : Heap 𝓤) (A : Atoms 𝓤) (W : Given
     room-of : (z : Z) → Room u8 (length (z .zs))
     room-of z = subst (Room u8) (sym (same-of z)) room
 
-    end-within : (z : Z) → z .end ≤ 118801
+    end-within : (z : Z) → z .end ≤ 126993
     end-within z = omega (arith, z .put .not-past, z .within, few-lines (now s), opened .1)
 
     end-fits : (z : Z) → z .end < 2 ^ 64
     end-fits z = lt-of-le-of-lt (end-within z) (lit< tt)
 
-    enough-of : (z : Z) → z .k < n → z .end + 29 ≤ length (z .zs)
+    enough-of : (z : Z) → z .k < n → z .end + 31 ≤ length (z .zs)
     enough-of z less = omega (arith, z .put .not-past, less, few-lines (now s), opened .1, long, same-of z)
 
     enough-left : (z : Z) → z .end + 4 ≤ length (z .zs)
     enough-left z = omega (arith, end-within z, long, same-of z)
 
-    -- where the loop stands at first, and after one more turn
+    -- where the loop stands at first, what a turn's reader yields, whose place is no further out than any kind's may be, and where the loop stands then
     begins-at : (h : Reader) → Begun h → Z
     begins-at h begun = record { k = 0; h = h; end = p; zs = ys₁; within = zero-le; as-long = refl; bytes-is = begun .0; at-is = begun .1 ∙ add-none; put = lines-begin (now s) ys₁ p }
       where
-        add-none : begins trail (now s) ≡ begins trail (now s) + 0
+        add-none : begins (now s) ≡ begins (now s) + 0
         add-none = omega arith
+
+    yielded : (z : Z) (x : Step) (h′ : Reader) → Stepped (z .h) x h′ → found x ≡ yields (now s) (begins (now s) + z .k)
+    yielded z x h′ st = st .0 ∙ (λ j. yields (now (z .bytes-is j)) (z .at-is j))
+
+    bounded-of : (z : Z) → z .k < n → (x : Step) (h′ : Reader) → Stepped (z .h) x h′ → step-bounded (found x)
+    bounded-of z less x h′ st = subst step-bounded (sym (yielded z x h′ st)) (line-bounded (now s) (z .k) less)
 
     onward : (z : Z) → z .k < n → (x : Step) (h′ : Reader) → Stepped (z .h) x h′ → (e′ : ℕ) (l : List ℕ) → length l ≡ length (z .zs) → Put (z .zs) (z .end) x e′ l → Z
     onward z less x h′ st e′ l len w = record {
@@ -400,12 +405,12 @@ module _ {M : Type 1} (𝓤 : URA M) (H : Heap 𝓤) (A : Atoms 𝓤) (W : Given
       within = add-one-le less;
       as-long = len ∙ z .as-long;
       bytes-is = st .1 ∙ z .bytes-is;
-      at-is = st .2 ∙ (λ j. moves trail (now (z .bytes-is j)) (z .at-is j)) ∙ line-moves (now s) (z .k) less;
-      put = lines-onward (found x) (z .put) (st .0 ∙ (λ j. yields trail (now (z .bytes-is j)) (z .at-is j)) ∙ line-yields (now s) (z .k) less) (w .0) (w .1);
+      at-is = st .2 ∙ (λ j. moves (now (z .bytes-is j)) (z .at-is j)) ∙ line-moves (now s) (z .k) less;
+      put = lines-onward (found x) (z .put) (yielded z x h′ st ∙ line-yields (now s) (z .k) less) (w .0) (w .1);
     }
 
     -- the closing line ends the text
-    ended : (z : Z) → z .k ≡ n → (e′ : ℕ) (l : List ℕ) → Closed (z .zs) (z .end) t e′ l → Stored ys 0 l e′ (text trail (now s)) × (e′ ≤ 118805)
+    ended : (z : Z) → z .k ≡ n → (e′ : ℕ) (l : List ℕ) → Closed (z .zs) (z .end) t e′ l → Stored ys 0 l e′ (text (now s)) × (e′ ≤ 126997)
     ended z at-end e′ l c = (text-put (now s) (refused t) told (opened .0) (subst (λ (j : ℕ). LinesPut (now s) ys₁ p j (z .end) (z .zs)) at-end (z .put)) (c .0), omega (arith, c .1, end-within z))
 
     module _ (𝓣 : Tables 𝓤 H) (known-next : Triple 𝓤 (𝓣 .C #record·next) (Next 𝓤 H A at-mem run)) (known-put : Triple 𝓤 (𝓣 .C #text·put-step) (PutStep 𝓤 H A at-mem run)) (known-closing : Triple 𝓤 (𝓣 .C #text·put-closing) (PutClosing 𝓤 H A at-mem run)) (l₀ l₁ l₂ l₃ l₄ l₅ l₆ l₇ l₈ l₉ l₁₀ l₁₁ l₁₂ l₁₃ l₁₄ l₁₅ l₁₆ l₁₇ : ℕ) where
@@ -454,7 +459,7 @@ module _ {M : Type 1} (𝓤 : URA M) (H : Heap 𝓤) (A : Atoms 𝓤) (W : Given
           assigns ! (agg ! (and-then ! (load ! (from ! (stop !)) (look ! 14 refl)) (and-then ! (load ! (from ! (fld ! refl (stop !))) (look-in ! 39 (sub ! 1 refl (whole !)))) (no-more !)))) (from ! (stop !)) (init ! 12 refl (tt, (tt, (record { fits = room-of z .0 }, tt)))) $
           -- the output is lent for a lifetime of its own
           lft-new ! tt (λ μ. move ! (7 ∷ 8 ∷ []) $ use2 W (later (some (λ (ε : GName). ‵ (HeldBytes (named 0) (μ ∷ []) b o (length (z .zs)) ε (z .zs)) ⊛ ‵ (WhileLent κ (μ ∷ []) q γ b o ε (z .zs))))) (lend-bytes κ (μ ∷ []) q γ b o 𝓤 H A W (named 0) (named 0) (z .zs)) $ await ! tt $ pick ! (λ ε. split ! $
-          move ! (2 ∷ 0 ∷ 6 ∷ []) $ use3 W (raw (PutStep 𝓤 H A at-mem run .pre (to-put μ ε (z .zs) (z .end) x u))) (goes-put μ ε (z .zs) (z .end) x u (end-fits z) (enough-of z less)) $
+          move ! (2 ∷ 0 ∷ 6 ∷ []) $ use3 W (raw (PutStep 𝓤 H A at-mem run .pre (to-put μ ε (z .zs) (z .end) x u))) (goes-put μ ε (z .zs) (z .end) x u (end-fits z) (enough-of z less, bounded-of z less x (ws .0) st)) $
           -- [what `put_step` asks; what waits; the bytes' token; the reader's cell; what it owns; true; what the bytes own; _17; …; _4; …; that _3 dies; _2; …]
           calls-at ! (fmOf 𝓤 H (W .laws) 𝓣) (PutStep 𝓤 H A at-mem run) known-put (to-put μ ε (z .zs) (z .end) x u) (and-then ! (load ! (from ! (stop !)) (look ! 11 refl)) (and-then ! (load ! (from ! (stop !)) (look ! 29 refl)) (and-then ! (load ! (from ! (stop !)) (look ! 25 refl)) (no-more !)))) (λ w.
           use1 W (later (some (λ (e : ℕ). ((‵ (flft (μ ∷ []) fullShare) ⊛ ‵ ftrue) ⊛ ‵ (usize .own e (w ∷ []))) ⊛ raw (ensured 𝓤 H A put-step.ended (put-step.clauses 𝓤 H A at-mem run) (μ ∷ [], tt) (bytes-at b o ε (z .zs), (z .end, (x, tt))) tt e)))) (id⊢ 𝓤 _) $ await ! tt $ pick ! (λ e.
@@ -524,7 +529,7 @@ module _ {M : Type 1} (𝓤 : URA M) (H : Heap 𝓤) (A : Atoms 𝓤) (W : Given
         ∷ ‵ (froom lentT l₁₇ 0) ∷ ‵ (fdies lentT l₁₇) ∷ ‵ (froom lentRef l₁₆ 0) ∷ ‵ (fdies lentRef l₁₆) ∷ ‵ (froom lentT l₁₅ 0) ∷ ‵ (fdies lentT l₁₅) ∷ ‵ (froom lentRef l₁₄ 0) ∷ ‵ (fdies lentRef l₁₄) ∷ ‵ (froom refT l₁₃ 0) ∷ ‵ (fdies refT l₁₃) ∷ ‵ (froom tyBool l₁₂ 0) ∷ ‵ (fdies tyBool l₁₂)
         ∷ ‵ (froom lentT l₁₁ 0) ∷ ‵ (fdies lentT l₁₁) ∷ ‵ (froom lentRef l₁₀ 0) ∷ ‵ (fdies lentRef l₁₀) ∷ ‵ (froom readerT l₉ 0) ∷ ‵ (fdies readerT l₉) ∷ ‵ (froom S′.mir l₈ 0) ∷ ‵ (fdies S′.mir l₈) ∷ ‵ (froom word l₇ 0) ∷ ‵ (fdies word l₇) ∷ ‵ (froom word l₆ 0) ∷ ‵ (fdies word l₆) ∷ ‵ (fat fullShare word l₅ 0 (vint w64 n)) ∷ ‵ (fdies word l₅) ∷ ‵ (fat fullShare Verdict′.mir l₄ 0 uv) ∷ ‵ (fdies Verdict′.mir l₄) ∷ ‵ (fat fullShare readerT l₃ 0 (T′.lowered h)) ∷ ‵ (fdies readerT l₃) ∷ ‵ (fat fullShare bytesT l₂ 0 v) ∷ ‵ (fdies bytesT l₂) ∷ ‵ (fat fullShare outT l₁ 0 (v′ (length ys))) ∷ ‵ (fdies outT l₁) ∷ ‵ (froom word l₀ 0) ∷ ‵ (fdies word l₀) ∷ []
 
-    opens : (h : Reader) → Begun h → (t : Checked) (uv : Val) → Is Verdict.the-row t (uv ∷ []) → refused t ≡ read-refusal trail (now s) → Sq W (AtOpening h uv) (runs C₀ Λ₀ En₀ body.t-6 (atRet En₀ Post))
+    opens : (h : Reader) → Begun h → (t : Checked) (uv : Val) → Is Verdict.the-row t (uv ∷ []) → refused t ≡ read-refusal (now s) → Sq W (AtOpening h uv) (runs C₀ Λ₀ En₀ body.t-6 (atRet En₀ Post))
     unfolding begins-at
     opens h begun t uv is-t told =
         assigns ! (addr ! (from ! (fld ! refl (hop ! (look-in ! 37 (sub ! 0 refl (whole !))) (stop !))))) (from ! (stop !)) (init ! 19 refl (tt, tt)) $

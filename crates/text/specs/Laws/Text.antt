@@ -11,22 +11,23 @@ use lib.Seq.{sets, length-take-le, take-suc}
 use native.Mathlib.Nat.{pow-suc}
 use native.Mathlib.Numerals.{add-one}
 use lib.Signed.{nonNeg, ltZ}
-use mir.Syntax.{w16, w32}
+use mir.Syntax.{w32, w64}
 use mir.Val.{Fits, SFits}
 use lib.IntN.{ℤ, pos, negsuc, natAbs, _-ℤ_}
 use borrow.Author.Tests.{lt-ltb, le-ltb, eq-eqb, ne-eqb}
-use Rattle.distance.specs.Fix.{Fix}
+use Rattle.distance.specs.Fix.{Fix, Bounded, widest}
 use Rattle.distance.specs.Integers.Order.{ltZ-false, zero-le}
-use Rattle.distance.specs.Integers.Bounds.{Bound, _⊝_, of-width, fits}
+use Rattle.distance.specs.Integers.Bounds.{Bound, _⊝_, of-width, fits, abs-bound}
 use Rattle.distance.specs.Integers.Tests.{Test, holds, fails, test}
 use Rattle.text.specs.Text.{space, line-end, fix-word, digit, digits, decimal, integer, fix-line, fix-lines, trail-word, never-word, refused-word, end-line, mark-text, first-line, refusal-line, record-text, text}
 use Rattle.record.specs.Checks.{read-refusal}
 use Rattle.record.specs.Reading.{yields, moves, begins}
 use Rattle.record.specs.Laws.Head.{accepted-head}
 use Rattle.record.specs.Laws.Reading.{yields-it, moves-to-next}
+use Rattle.record.specs.Laws.Trail.{fix-of, accepted-widest, fixes-from}
 use Rattle.format.specs.Laws.Numbers.{false-true}
-use Rattle.format.specs.Format.{Kind, trail, mark-field, count-field, fix-at, fixes, each}
-use Rattle.format.specs.Laws.Each.{each-more}
+use Rattle.format.specs.Format.{mark-field, count-field, fixes, each}
+use Rattle.format.specs.Laws.Each.{each-more, all-at}
 use Rattle.format.specs.Laws.Stores.{sets-then, sets-front}
 
 -- ---- text put down piece by piece: the buffer b became c, with l from `at` on, and r is where it ends
@@ -47,6 +48,11 @@ nothing-stored b at = record { ends = omega arith; holds-it = refl }
 abbrev pub step-text : Option Fix → List ℕ
 step-text (some f) = fix-line f
 step-text none = []
+
+-- .. and its place is no further out than any kind's may be
+abbrev pub step-bounded : Option Fix → Type 0
+step-bounded (some f) = Bounded widest f
+step-bounded none = Unit
 
 -- one digit, or the digits before the last and the last: whatever the depth, if it is enough
 one-digit : (k n : ℕ) → n < 10 → digits k n ≡ digit n ∷ []
@@ -106,49 +112,55 @@ store-word b w at k h =
     let e : length (take k w) ≡ k = length-take-le k w (omega arith) in
     rw (add-one, take-suc w k 0 h) (sets-then b at (take k w) (at + k) (getD w k 0 ∷ []) (rw e refl))
 
--- ---- a coordinate of 16 bits takes at most six bytes
+-- ---- a coordinate of 32 bits: a sign if it is below 0, and u is what stands after it
 pub record SignFits (z : ℤ) : Type 0 where
-  pub z16 : SFits w16 z
   pub z32 : SFits w32 z
-  pub minus32 : SFits w32 (pos 0 -ℤ z)
+  pub z64 : SFits w64 z
+  pub minus64 : SFits w64 (pos 0 -ℤ z)
 
-pub sign-fits : {z : ℤ} → SFits w16 z → SignFits z
+pub sign-fits : {z : ℤ} → SFits w32 z → SignFits z
 sign-fits {z} f =
     let none : Bound (pos 0) = record { top = 0; holds = omega arith } in
-    record { z16 = f; z32 = fits w32 (of-width w16 f) tt; minus32 = fits w32 (none ⊝ of-width w16 f) tt }
+    record { z32 = f; z64 = fits w64 (of-width w32 f) tt; minus64 = fits w64 (none ⊝ of-width w32 f) tt }
 
--- u is what stands after the sign
-pub record Magnitude (z u : ℤ) : Type 0 where
+pub record Magnitude (u : ℤ) : Type 0 where
   pub not-negative : T (nonNeg u)
   pub fits32 : Fits w32 (natAbs u)
-  pub five : length (decimal (natAbs u)) ≤ 5
+
+pub below-zero : (z : ℤ) → SFits w32 z → ltZ z (pos 0) ≡ true → Magnitude (pos 0 -ℤ z) × (integer z ≡ 45 ∷ decimal (natAbs (pos 0 -ℤ z)))
+unfolding integer
+below-zero (pos n) f h = absurd (false-true (sym (ltZ-false {x = pos n} {y = pos 0} (zero-le n)) ∙ h))
+below-zero (negsuc n) f h =
+    let small : n < 2147483648 = f .sfits in
+    let e : 0 + suc n ≡ suc n = omega arith in
+    (record { not-negative = tt; fits32 = record { fits = omega arith } }, rw e refl)
+
+pub from-zero : (z : ℤ) → SFits w32 z → ltZ z (pos 0) ≡ false → Magnitude z × (integer z ≡ decimal (natAbs z))
+unfolding integer
+from-zero (pos n) f h = let small : n < 2147483648 = f .sfits in (record { not-negative = tt; fits32 = record { fits = omega arith } }, refl)
+from-zero (negsuc n) f h = absurd (false-true (sym h))
+
+pub store-sign : (b c : List ℕ) (at m r : ℕ) (z : ℤ) → integer z ≡ 45 ∷ decimal m → r ≡ at + 1 + length (decimal m) → c ≡ sets (set b at 45) (at + 1) (decimal m) → Stored b at c r (integer z)
+store-sign b c at m r z e h g = record { ends = rw e (omega arith); holds-it = rw (g, e, add-one) refl }
+
+pub store-plain : (b c : List ℕ) (at m r : ℕ) (z : ℤ) → integer z ≡ decimal m → r ≡ at + length (decimal m) → c ≡ sets b at (decimal m) → Stored b at c r (integer z)
+store-plain b c at m r z e h g = record { ends = rw e h; holds-it = rw e g }
+
+-- ---- HOW LONG THE NUMBERS ARE AT MOST; what the text takes with them is reckoned in Examples.antt (`longest-text`)
+pub ten-digits : (n : ℕ) → n < 4294967296 → length (decimal n) ≤ 10
+ten-digits n h = decimal-short 9 n (omega arith)
 
 pub five-digits : (n : ℕ) → n < 100000 → length (decimal n) ≤ 5
 five-digits n h = decimal-short 4 n h
 
-pub below-zero : (z : ℤ) → SFits w16 z → ltZ z (pos 0) ≡ true → Magnitude z (pos 0 -ℤ z) × (integer z ≡ 45 ∷ decimal (natAbs (pos 0 -ℤ z)))
+-- a coordinate of a record of any kind
+seven-bytes : (z : ℤ) → natAbs z ≤ widest → length (integer z) ≤ 7
 unfolding integer
-below-zero (pos n) f h = absurd (false-true (sym (ltZ-false {x = pos n} {y = pos 0} (zero-le n)) ∙ h))
-below-zero (negsuc n) f h =
-    let small : n < 32768 = f .sfits in
-    let e : 0 + suc n ≡ suc n = omega arith in
-    (record { not-negative = tt; fits32 = record { fits = omega arith }; five = rw e (five-digits (suc n) (omega arith)) }, rw e refl)
+seven-bytes (pos n) h = omega (arith, decimal-short 5 n (omega arith))
+seven-bytes (negsuc n) h = omega (arith, decimal-short 5 (suc n) (omega arith))
 
-pub from-zero : (z : ℤ) → SFits w16 z → ltZ z (pos 0) ≡ false → Magnitude z z × (integer z ≡ decimal (natAbs z))
-unfolding integer
-from-zero (pos n) f h = let small : n < 32768 = f .sfits in (record { not-negative = tt; fits32 = record { fits = omega arith }; five = five-digits n (omega arith) }, refl)
-from-zero (negsuc n) f h = absurd (false-true (sym h))
-
-pub store-sign : (b c : List ℕ) (at m r : ℕ) (z : ℤ) → integer z ≡ 45 ∷ decimal m → length (decimal m) ≤ 5 → r ≡ at + 1 + length (decimal m) → c ≡ sets (set b at 45) (at + 1) (decimal m)
-    → Stored b at c r (integer z) × (r ≤ at + 6)
-store-sign b c at m r z e five h g = (record { ends = rw e (omega arith); holds-it = rw (g, e, add-one) refl }, omega arith)
-
-pub store-plain : (b c : List ℕ) (at m r : ℕ) (z : ℤ) → integer z ≡ decimal m → length (decimal m) ≤ 5 → r ≡ at + length (decimal m) → c ≡ sets b at (decimal m)
-    → Stored b at c r (integer z) × (r ≤ at + 6)
-store-plain b c at m r z e five h g = (record { ends = rw e h; holds-it = rw e g }, omega arith)
-
-pub ten-digits : (n : ℕ) → n < 4294967296 → length (decimal n) ≤ 10
-ten-digits n h = decimal-short 9 n (omega arith)
+pub place-short : {f : Fix} → Bounded widest f → (length (integer (f .x)) ≤ 7) × (length (integer (f .y)) ≤ 7)
+place-short {f} h = (seven-bytes (f .x) (abs-bound (f .x) widest (h .x-high) (h .x-low)), seven-bytes (f .y) (abs-bound (f .y) widest (h .y-high) (h .y-low)))
 
 -- the lines, as they are put down
 pub fix-line-is : (f : Fix) → fix-line f ≡ fix-word ++ (decimal (f .t) ++ ((space ∷ []) ++ (integer (f .x) ++ ((space ∷ []) ++ (integer (f .y) ++ (line-end ∷ []))))))
@@ -189,17 +201,17 @@ lines-more f a k e p q =
 
 -- where the listing of a record b stands after the lines of k fixes: they are put down over ys from p on, which gave zs, and they end at `end`
 pub record LinesPut (b ys : List ℕ) (p k end : ℕ) (zs : List ℕ) : Type 0 where
-  pub stored : Stored ys p zs end (fix-lines (each (fix-at trail b) 0 k))
-  pub not-past : end ≤ p + 29 * k
+  pub stored : Stored ys p zs end (fix-lines (each (fix-of b) 0 k))
+  pub not-past : end ≤ p + 31 * k
 
 pub lines-begin : (b ys : List ℕ) (p : ℕ) → LinesPut b ys p 0 p ys
-lines-begin b ys p = record { stored = lines-none ys p (fix-at trail b); not-past = omega arith }
+lines-begin b ys p = record { stored = lines-none ys p (fix-of b); not-past = omega arith }
 
 -- one more, of what a reader at k yields
-pub lines-onward : {b ys zs l : List ℕ} {p k end r : ℕ} (x : Option Fix) → LinesPut b ys p k end zs → x ≡ some (fix-at trail b k) → Stored zs end l r (step-text x) → r ≤ end + 29
+pub lines-onward : {b ys zs l : List ℕ} {p k end r : ℕ} (x : Option Fix) → LinesPut b ys p k end zs → x ≡ some (fix-of b k) → Stored zs end l r (step-text x) → r ≤ end + 31
     → LinesPut b ys p (k + 1) r l
 lines-onward {b} {ys} {zs} {l} {p} {k} {end} {r} x h e s t = record {
-  stored = lines-more (fix-at trail b) (fix-at trail b k) k refl (h .stored) (let g = s in rw e at g);
+  stored = lines-more (fix-of b) (fix-of b k) k refl (h .stored) (let g = s in rw e at g);
   not-past = omega (arith, h .not-past);
 }
 
@@ -208,63 +220,70 @@ abbrev pub opening-of : Option ℕ → (count mark : ℕ) → List ℕ
 opening-of none count mark = first-line count mark
 opening-of (some k) count mark = refusal-line k
 
-abbrev pub opening-text : Kind → List ℕ → List ℕ
-opening-text K b = opening-of (read-refusal K b) (count-field b) (mark-field b)
+abbrev pub opening-text : List ℕ → List ℕ
+opening-text b = opening-of (read-refusal b) (count-field b) (mark-field b)
 
 abbrev pub lines-of : Option ℕ → ℕ → ℕ
 lines-of none count = count
 lines-of (some k) count = 0
 
-abbrev pub lines-in : Kind → List ℕ → ℕ
-lines-in K b = lines-of (read-refusal K b) (count-field b)
+abbrev pub lines-in : List ℕ → ℕ
+lines-in b = lines-of (read-refusal b) (count-field b)
 
 abbrev pub closing-text : Option ℕ → List ℕ
 closing-text none = end-line
 closing-text (some k) = []
 
-pub text-parts : (b : List ℕ) → text trail b ≡ opening-text trail b ++ (fix-lines (each (fix-at trail b) 0 (lines-in trail b)) ++ closing-text (read-refusal trail b))
+pub text-parts : (b : List ℕ) → text b ≡ opening-text b ++ (fix-lines (each (fix-of b) 0 (lines-in b)) ++ closing-text (read-refusal b))
 unfolding text record-text each fix-lines
-text-parts b = go (read-refusal trail b)
+text-parts b = go (read-refusal b)
   where
-    go : (r : Option ℕ) → elim r [ none ↦ record-text (count-field b) (mark-field b) (fixes trail b) | some k ↦ refusal-line k ]
-        ≡ opening-of r (count-field b) (mark-field b) ++ (fix-lines (each (fix-at trail b) 0 (lines-of r (count-field b))) ++ closing-text r)
+    go : (r : Option ℕ) → elim r [ none ↦ record-text (count-field b) (mark-field b) (fixes b) | some k ↦ refusal-line k ]
+        ≡ opening-of r (count-field b) (mark-field b) ++ (fix-lines (each (fix-of b) 0 (lines-of r (count-field b))) ++ closing-text r)
     go none = refl
     go (some k) = sym (append-nil (refusal-line k))
 
 -- where there is a line of a fix, the bytes are accepted ..
-accepted-line : (b : List ℕ) (k : ℕ) → k < lines-in trail b → read-refusal trail b ≡ none
-accepted-line b k h = go (read-refusal trail b) h
+accepted-line : (b : List ℕ) (k : ℕ) → k < lines-in b → read-refusal b ≡ none
+accepted-line b k h = go (read-refusal b) h
   where
     go : (r : Option ℕ) → k < lines-of r (count-field b) → r ≡ none
     go none l = refl
     go (some j) l = absurd (omega (arith, l))
 
-pub few-lines : (b : List ℕ) → lines-in trail b ≤ 4096
-few-lines b = go (read-refusal trail b) refl
+pub few-lines : (b : List ℕ) → lines-in b ≤ 4096
+few-lines b = go (read-refusal b) refl
   where
-    go : (r : Option ℕ) → read-refusal trail b ≡ r → lines-of r (count-field b) ≤ 4096
+    go : (r : Option ℕ) → read-refusal b ≡ r → lines-of r (count-field b) ≤ 4096
     go none e = accepted-head b e .few-fixes
     go (some k) e = omega arith
 
 -- .. so a reader of them that has yielded k fixes yields fix k, and goes on to the next
-module _ (b : List ℕ) (k : ℕ) (line : k < lines-in trail b) where
-  first-place : begins trail b + k ≡ k
+module _ (b : List ℕ) (k : ℕ) (line : k < lines-in b) where
+  first-place : begins b + k ≡ k
   first-place = rw (accepted-line b k line) (omega arith)
 
   line-counted : k < count-field b
   line-counted = let h = line in rw (accepted-line b k line) at h
 
-  pub line-yields : yields trail b (begins trail b + k) ≡ some (fix-at trail b k)
-  line-yields = rw first-place (yields-it b k (count-field b) line-counted (omega arith) (accepted-head b (accepted-line b k line) .whole))
+  pub line-yields : yields b (begins b + k) ≡ some (fix-of b k)
+  line-yields = rw first-place (let h = accepted-head b (accepted-line b k line) in yields-it b k (count-field b) (h .known) line-counted (omega arith) (h .whole))
 
-  pub line-moves : moves trail b (begins trail b + k) ≡ begins trail b + (k + 1)
+  -- whose place is no further out than any kind's may be
+  pub line-bounded : step-bounded (yields b (begins b + k))
+  line-bounded =
+      let a = accepted-line b k line in
+      let w = accepted-widest b (record { accepted = a }) .bounded in
+      rw line-yields (all-at {P = Bounded widest} (fix-of b) (count-field b) k (rw (fixes-from b (accepted-head b a .some-fix)) w) line-counted)
+
+  pub line-moves : moves b (begins b + k) ≡ begins b + (k + 1)
   line-moves =
-      let e : begins trail b + (k + 1) ≡ begins trail b + k + 1 = omega arith in
-      rw (e, first-place) (moves-to-next b k (count-field b) line-counted (omega arith) (accepted-head b (accepted-line b k line) .whole))
+      let e : begins b + (k + 1) ≡ begins b + k + 1 = omega arith in
+      rw (e, first-place) (let h = accepted-head b (accepted-line b k line) in moves-to-next b k (count-field b) (h .known) line-counted (omega arith) (h .whole))
 
 -- the three parts put down one after the other make the text
-pub text-put : {ys zs l m : List ℕ} {p end e : ℕ} (b : List ℕ) (r : Option ℕ) → r ≡ read-refusal trail b → Stored ys 0 zs p (opening-text trail b) → LinesPut b zs p (lines-in trail b) end l
-    → Stored l end m e (closing-text r) → Stored ys 0 m e (text trail b)
+pub text-put : {ys zs l m : List ℕ} {p end e : ℕ} (b : List ℕ) (r : Option ℕ) → r ≡ read-refusal b → Stored ys 0 zs p (opening-text b) → LinesPut b zs p (lines-in b) end l
+    → Stored l end m e (closing-text r) → Stored ys 0 m e (text b)
 text-put b r told opened lines closed = let c = closed in rw (text-parts b) (stored-then opened (stored-then (lines .stored) (rw told at c)))
 
 -- at the start of an output that is long enough

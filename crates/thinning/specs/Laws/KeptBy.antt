@@ -1,5 +1,5 @@
 -- What marks keep of a trail: part by part, and the marks with which a thinning begins.
-use mathlib.Core.Path.{_≡_, refl, _∙_, ap}
+use mathlib.Core.Path.{_≡_, refl, sym, _∙_, ap}
 use mathlib.Core.Bool.{Bool, true, false, cond}
 use mathlib.Core.Logic.{⊎-elim}
 use mathlib.Core.List.{List, [], _∷_, _++_, append-nil, map}
@@ -55,7 +55,7 @@ module _ {A : Type 0} (marks : List Bool) where
       go y z false h = h
 
   -- of others in their places marks keep those at the same positions
-  pub kept-by-mapped : (f : A → A) (k : ℕ) (l : List A) → kept-by marks k (map f l) ≡ map f (kept-by marks k l)
+  kept-by-mapped : (f : A → A) (k : ℕ) (l : List A) → kept-by marks k (map f l) ≡ map f (kept-by marks k l)
   unfolding kept-by
   kept-by-mapped f k [] = refl
   kept-by-mapped f k (i ∷ l) = rw (kept-by-mapped f (suc k) l) (go (getD marks k false))
@@ -63,6 +63,10 @@ module _ {A : Type 0} (marks : List Bool) where
       go : (b : Bool) → cond b (f i ∷ map f (kept-by marks (suc k) l)) (map f (kept-by marks (suc k) l)) ≡ map f (cond b (i ∷ kept-by marks (suc k) l) (kept-by marks (suc k) l))
       go true = refl
       go false = refl
+
+  -- so marks that tell which of l are those of k tell it of the others in their places, too
+  pub same-positions : (f : A → A) (l : List A) {k m n : List A} → m ≡ map f l → n ≡ map f k → k ≡ kept-by marks 0 l → n ≡ kept-by marks 0 m
+  same-positions f l all kept h = kept ∙ ap (map f) h ∙ sym (kept-by-mapped f 0 l) ∙ ap (kept-by marks 0) (sym all)
 
   pub kept-by-length : (k : ℕ) (l : List A) → length (kept-by marks k l) ≤ length l
   unfolding kept-by

@@ -1,23 +1,32 @@
 -- From marks to thinning: the marks that `Marks` leaves say what thinning keeps, with the same count.
-use mathlib.Core.Path.{_≡_, refl, _∙_, ap}
+use mathlib.Core.Path.{_≡_, refl, sym, _∙_, ap}
 use mathlib.Core.Bool.{Bool, true, false}
 use mathlib.Core.List.{List}
 use Prim.Native.Nat.{ℕ, zero, suc, _+_, _*_, _-_, _<_, _≤_}
 use native.Mathlib.Nat.{le-refl, mul-le-mul, mul-le-mul-left}
 use native.Mathlib.Omega.{arith}
 use lib.ListN.{length, getD, set, length-set}
+use borrow.Author.Tests.{leb-true, leb-false}
 use lib.Seq.{getD-set-same, getD-set-other}
 use Rattle.distance.specs.Fix.{Fix}
 use Rattle.distance.specs.Distance.{deviation, allowance}
 use Rattle.format.specs.Format.{each}
 use Rattle.format.specs.Laws.Each.{length-each}
 use Rattle.thinning.specs.Thinning.{Thinned, thin, thinning}
-use Rattle.thinning.specs.Marks.{kept-by, Ready, Cleared, Says, Marks, marks-none, marks-ends, marks-split}
+use Rattle.thinning.specs.Marks.{kept-by, Ready, Cleared, Says, Judged, Marks, marks-none, marks-ends, marks-split}
 use Rattle.distance.specs.Laws.All.{all-none}
 use Rattle.thinning.specs.Laws.Furthest.{Tops}
 use Rattle.thinning.specs.Laws.Keeps.{Keeps, ends-only, pieces-of, keeps-span}
 use Rattle.thinning.specs.Laws.Kept.{thin-ends}
 use Rattle.thinning.specs.Laws.KeptBy.{inner, inner-split, inner-all, kept-by-none, kept-by-same, kept-inner, each-ends, kept-ends, ready}
+
+-- ---- the two ways out of a span that has inner fixes, as it was judged
+module _ {A : Type 0} {far : (i m j : A) → ℕ} {bound : (e : ℕ) (i j : A) → ℕ} {f : ℕ → A} {e lo hi m : ℕ} {b : Bool} (j : Judged far bound f e lo hi m b) where
+  pub judged-ends : {k : List Bool} → b ≡ true → Marks far bound f e lo hi k k (hi - lo - 1)
+  judged-ends t = marks-ends (j .furthest) (leb-true _ _ (sym (j .tested) ∙ t))
+
+  pub judged-split : {c d : ℕ} {k k1 k2 : List Bool} → b ≡ false → Marks far bound f e lo m (set k m true) k1 c → Marks far bound f e m hi k1 k2 d → Marks far bound f e lo hi k k2 (hi - lo - 1 + c + d)
+  judged-split t = marks-split (j .furthest) (leb-false _ _ (sym (j .tested) ∙ t))
 
 -- ---- the count: with n = hi − lo, at most n·(n − 1)/2
 none-count : (n : ℕ) → n < 2 → 2 * 0 + n ≤ n * n

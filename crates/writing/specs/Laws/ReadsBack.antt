@@ -2,23 +2,22 @@
 use mathlib.Core.Path.{_≡_, refl, sym, _∙_, ap}
 use mathlib.Core.List.{List, [], _∷_, _++_, map}
 use mathlib.Core.Option.{none}
-use Prim.Native.Nat.{ℕ, zero, suc, _+_, _*_, _<_, _≤_, min}
+use Prim.Native.Nat.{ℕ, zero, suc, _≤_, min}
 use native.Mathlib.Omega.{arith}
 use lib.Dec.{ltb, eqb}
 use lib.ListN.{length, getD, drop, length-append}
 use borrow.Author.Tests.{eqb-false}
-use lib.IntN.{ℤ, pos, negsuc, negℤ}
-use mir.Syntax.{w16}
-use mir.Val.{SFits}
-use lib.Signed.{_≤ℤ_}
+use lib.IntN.{ℤ, pos}
 use Rattle.distance.specs.Fix.{Fix, Bounded}
 use Rattle.distance.specs.Laws.All.{All, all-none, all-more}
-use Rattle.distance.specs.Integers.Differences.{diffs}
-use Rattle.format.specs.Format.{trail, never, count-field, fix-at, each, record-bytes}
+use Rattle.format.specs.declared.Kind.{Kind as CodeKind}
+use Rattle.format.specs.Kinds.{Kind, layout}
+use Rattle.format.specs.Format.{kind-of, record-length, never, count-field, fix-at, each, record-bytes}
+use Rattle.format.specs.Laws.Kinds.{IsKind, is-kind, is-coded}
 use Rattle.record.specs.Checks.{bad-count, short-output, sentence, fix-checks, refusal, writing}
 use Rattle.record.specs.Laws.First.{NoneHolds, no-check, and-not, none-holds}
 use Rattle.record.specs.Laws.Head.{positive, neither}
-use Rattle.format.specs.Laws.RoundTrip.{InRange, read-record}
+use Rattle.format.specs.Laws.RoundTrip.{InRange, bounded-in-range, read-record}
 use Rattle.writing.specs.Writing.{asked-to-write, write-refusal, written, ReadsBack, column-fix, columns}
 use Rattle.writing.specs.Laws.Writing.{writes-fit}
 use Rattle.format.specs.Laws.Each.{length-each, each-shift}
@@ -30,32 +29,31 @@ use Rattle.record.specs.Laws.Scan.{Timed}
 use Rattle.record.specs.Laws.Accepted.{GoodFixes, accept, mark-never-applied, places-good}
 
 -- ---- THE ROUND TRIP of the writer: what it puts down is accepted, and reads as the list that it was lent, marked never
-writes-good : (l : List Fix) (output : ℕ) → refusal trail writing (asked-to-write l output) ≡ none → (1 ≤ length l) × GoodFixes l
+pub writes-good : (K : Kind) (l : List Fix) (output : ℕ) → refusal K writing (asked-to-write l output) ≡ none → (1 ≤ length l) × GoodFixes (K .limit) l
 unfolding sentence
-writes-good l output h = go (none-holds (sentence trail (asked-to-write l output)) (bad-count ∷ (fix-checks ++ short-output ∷ [])) h)
+writes-good K l output h = go (none-holds (sentence K (asked-to-write l output)) (bad-count ∷ (fix-checks ++ short-output ∷ [])) h)
   where
-    go : NoneHolds (sentence trail (asked-to-write l output)) (bad-count ∷ (fix-checks ++ short-output ∷ [])) → (1 ≤ length l) × GoodFixes l
+    go : NoneHolds (sentence K (asked-to-write l output)) (bad-count ∷ (fix-checks ++ short-output ∷ [])) → (1 ≤ length l) × GoodFixes (K .limit) l
     go (and-not h3 (and-not h7 (and-not h8 (and-not h9 (and-not h15 no-check))))) =
         (positive (length l) (eqb-false (length l) 0 (neither (eqb (length l) 0) (ltb 4096 (length l)) h3 .0)), record { inside = h7; ordered = h8; short = h9 })
 
--- a place within the limit and a time of 32 bits fit the bytes of a fix
-bounded-fits : (z : ℤ) → negℤ (pos 16000) ≤ℤ z → z ≤ℤ pos 16000 → SFits w16 z
-bounded-fits (pos n) low high = record { sfits = let h : n ≤ 16000 = omega (arith, simp diffs at high) in omega (arith, h) }
-bounded-fits (negsuc n) low high = record { sfits = let h : n < 16000 = omega (arith, simp diffs at low) in omega (arith, h) }
+in-range : (K : Kind) → IsKind K → {l : List Fix} → All Timed l → All (Bounded (K .limit)) l → All (InRange K) l
+in-range K is all-none all-none = all-none
+in-range K is (all-more h hs) (all-more g gs) = all-more (bounded-in-range K is (h .t32) g) (in-range K is hs gs)
 
-in-range : {l : List Fix} → All Timed l → All (Bounded 16000) l → All InRange l
-in-range all-none all-none = all-none
-in-range (all-more {m = f} h hs) (all-more g gs) = all-more (record { t32 = h .t32; x16 = bounded-fits (f .x) (g .x-low) (g .x-high); y16 = bounded-fits (f .y) (g .y-low) (g .y-high) }) (in-range hs gs)
-
-pub writes-back : (l : List Fix) (out : List ℕ) → All Timed l → write-refusal trail l out ≡ none → ReadsBack trail l (written trail l out)
-writes-back l out h n =
-    let fit = writes-fit l (length out) n in
-    let good = writes-good l (length out) n in
-    let r = read-record 65535 l (drop (10 + 8 * length l) out) (omega arith) (fit .0) (in-range h (places-good 16000 l (good .1 .inside))) in
-    rw n (record { is-accepted = accept 65535 l _ r (mark-never-applied refl) (good .0) (fit .0) (long l (drop (10 + 8 * length l) out)) (good .1); is-never = r .mark-reads; fixes-are = r .fixes-read })
+pub writes-back : (κ : CodeKind) (l : List Fix) (out : List ℕ) → All Timed l → write-refusal (layout κ) l out ≡ none → ReadsBack (layout κ) l (written (layout κ) l out)
+writes-back κ l out h n =
+    let K = layout κ in
+    let is = is-kind κ in
+    let fit = writes-fit K l (length out) n in
+    let good = writes-good K l (length out) n in
+    let rest = drop (record-length K (length l)) out in
+    let r = read-record κ 65535 l rest (omega arith) (fit .0) (in-range K is h (places-good (K .limit) l (good .1 .inside))) in
+    let a = accept _ r (is-coded κ (K .code) refl) (mark-never-applied refl) (good .0) (fit .0) (long K is l rest) (good .1) in
+    rw n (record { is-accepted = a; of-kind = r .kind-reads; is-never = r .mark-reads; fixes-are = r .fixes-read })
   where
-    long : (l : List Fix) (r : List ℕ) → 10 + 8 * length l ≤ length (record-bytes trail never l ++ r)
-    long l r = omega (arith, length-append (record-bytes trail never l) r, length-record never l)
+    long : (K : Kind) → IsKind K → (l : List Fix) (r : List ℕ) → record-length K (length l) ≤ length (record-bytes K never l ++ r)
+    long K is l r = omega (arith, length-append (record-bytes K never l) r, length-record K is never l)
 
 -- ---- THE INVERSE of the writer over columns: all fixes read at once, into columns as long as the lent ones, are the lent columns
 module _ {A : Type 0} where
@@ -84,10 +82,10 @@ module _ (ts : List ℕ) (xs ys : List ℤ) (p : length xs ≡ length ts) (q : l
   columns-ys = map-each (λ (f : Fix). f .y) (column-fix ts xs ys) 0 _ ∙ rw (as-many, ← q) (each-of ys (pos 0))
 
   module _ (us : List ℕ) (vs ws : List ℤ) (u : length us ≡ length ts) (v : length vs ≡ length ts) (w : length ws ≡ length ts) where
-    pub reads-columns-back : (b : List ℕ) → ReadsBack trail (columns ts xs ys) b
-        → (read-answer trail b ≡ gives (length ts)) × (times-read trail b us ≡ ts) × (xs-read trail b vs ≡ xs) × (ys-read trail b ws ≡ ys)
-    reads-columns-back b r =
-        let n : count-field b ≡ length ts = sym (length-each (fix-at trail b) 0 (count-field b)) ∙ ap length (r .fixes-are) ∙ length-each (column-fix ts xs ys) 0 _ ∙ as-many in
+    pub reads-columns-back : (K : Kind) (b : List ℕ) → ReadsBack K (columns ts xs ys) b
+        → (read-answer b ≡ gives (length ts)) × (times-read b us ≡ ts) × (xs-read b vs ≡ xs) × (ys-read b ws ≡ ys)
+    reads-columns-back K b r =
+        let n : count-field b ≡ length ts = sym (length-each (fix-at (kind-of b) b) 0 (count-field b)) ∙ ap length (r .fixes-are) ∙ length-each (column-fix ts xs ys) 0 _ ∙ as-many in
         let e = reads-exactly b us vs ws (r .is-accepted) (u ∙ sym n) (v ∙ sym n) (w ∙ sym n) in (
           rw (r .is-accepted .accepted, n) refl,
           e .0 ∙ ap times-of (r .fixes-are) ∙ columns-times,
@@ -96,9 +94,9 @@ module _ (ts : List ℕ) (xs ys : List ℤ) (p : length xs ≡ length ts) (q : l
         )
 
     -- so whatever columns the writer accepts, reading what it wrote gives them back
-    pub written-columns-back : (out : List ℕ) → All Timed (columns ts xs ys) → write-refusal trail (columns ts xs ys) out ≡ none
-        → (read-answer trail (written trail (columns ts xs ys) out) ≡ gives (length ts))
-        × (times-read trail (written trail (columns ts xs ys) out) us ≡ ts)
-        × (xs-read trail (written trail (columns ts xs ys) out) vs ≡ xs)
-        × (ys-read trail (written trail (columns ts xs ys) out) ws ≡ ys)
-    written-columns-back out t h = reads-columns-back (written trail (columns ts xs ys) out) (writes-back (columns ts xs ys) out t h)
+    pub written-columns-back : (κ : CodeKind) (out : List ℕ) → All Timed (columns ts xs ys) → write-refusal (layout κ) (columns ts xs ys) out ≡ none
+        → (read-answer (written (layout κ) (columns ts xs ys) out) ≡ gives (length ts))
+        × (times-read (written (layout κ) (columns ts xs ys) out) us ≡ ts)
+        × (xs-read (written (layout κ) (columns ts xs ys) out) vs ≡ xs)
+        × (ys-read (written (layout κ) (columns ts xs ys) out) ws ≡ ys)
+    written-columns-back κ out t h = reads-columns-back (layout κ) (written (layout κ) (columns ts xs ys) out) (writes-back κ (columns ts xs ys) out t h)

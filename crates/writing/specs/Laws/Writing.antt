@@ -3,14 +3,16 @@ use mathlib.Core.Path.{_≡_, refl, _∙_}
 use mathlib.Core.Bool.{Bool, true, false}
 use mathlib.Core.List.{List, [], _∷_, _++_}
 use mathlib.Core.Option.{some, none}
-use Prim.Native.Nat.{ℕ, _+_, _*_, _<_, _≤_}
+use Prim.Native.Nat.{ℕ, _<_, _≤_}
 use native.Mathlib.Omega.{arith}
 use lib.ListN.{length}
 use lib.Seq.{sets}
 use lib.Dec.{ltb, eqb}
 use borrow.Author.Tests.{lt-ltb, le-ltb, eq-eqb, ne-eqb, ltb-false}
 use Rattle.distance.specs.Fix.{Fix}
-use Rattle.format.specs.Format.{trail, all-bytes, header-bytes}
+use Rattle.format.specs.Kinds.{Kind}
+use Rattle.format.specs.Format.{record-length, all-bytes, header-bytes}
+use Rattle.format.specs.Laws.Kinds.{IsKind}
 use Rattle.record.specs.Checks.{Check, bad-count, short-output, sentence, first, fix-checks, refusal, writing, some-outside, some-early, of-ends}
 use Rattle.writing.specs.Writing.{asked-to-write, write-refusal, write-answer, written}
 use Rattle.record.specs.Answers.{gives, turns-away}
@@ -18,72 +20,72 @@ use Rattle.record.specs.Laws.First.{stops, passes, none-first, some-first, None
 use Rattle.record.specs.Laws.Head.{neither}
 use Rattle.format.specs.Laws.Layout.{record-stores}
 
-abbrev pub says : List Fix → ℕ → Check → Bool
-says l output = sentence trail (asked-to-write l output)
+abbrev pub says : Kind → List Fix → ℕ → Check → Bool
+says K l output = sentence K (asked-to-write l output)
 
-module _ (l : List Fix) (output : ℕ) where
-  no-fix : length l ≡ 0 → says l output bad-count ≡ true
+module _ (K : Kind) (l : List Fix) (output : ℕ) where
+  no-fix : length l ≡ 0 → says K l output bad-count ≡ true
   unfolding sentence
   no-fix h = rw (eq-eqb _ _ h) refl
 
-  many-fixes : 4096 < length l → says l output bad-count ≡ true
+  many-fixes : 4096 < length l → says K l output bad-count ≡ true
   unfolding sentence
   many-fixes h = rw (ne-eqb (length l) 0 (λ e. omega arith), lt-ltb _ _ h) refl
 
-  good-count : (length l ≡ 0 → ⊥) → length l ≤ 4096 → says l output bad-count ≡ false
+  good-count : (length l ≡ 0 → ⊥) → length l ≤ 4096 → says K l output bad-count ≡ false
   unfolding sentence
   good-count h k = rw (ne-eqb _ _ h, le-ltb _ _ k) refl
 
-  short : output < 10 + 8 * length l → says l output short-output ≡ true
+  short : output < record-length K (length l) → says K l output short-output ≡ true
   unfolding sentence
   short h = lt-ltb _ _ h
 
-  not-short : 10 + 8 * length l ≤ output → says l output short-output ≡ false
+  not-short : record-length K (length l) ≤ output → says K l output short-output ≡ false
   unfolding sentence
   not-short h = le-ltb _ _ h
 
-  pub writes-3-none : length l ≡ 0 → refusal trail writing (asked-to-write l output) ≡ some 3
-  writes-3-none h = stops (says l output) bad-count _ (no-fix h)
+  pub writes-3-none : length l ≡ 0 → refusal K writing (asked-to-write l output) ≡ some 3
+  writes-3-none h = stops (says K l output) bad-count _ (no-fix h)
 
-  pub writes-3-many : 4096 < length l → refusal trail writing (asked-to-write l output) ≡ some 3
-  writes-3-many h = stops (says l output) bad-count _ (many-fixes h)
+  pub writes-3-many : 4096 < length l → refusal K writing (asked-to-write l output) ≡ some 3
+  writes-3-many h = stops (says K l output) bad-count _ (many-fixes h)
 
   module _ (h : length l ≡ 0 → ⊥) (g : length l ≤ 4096) where
-    count-passed : refusal trail writing (asked-to-write l output) ≡ first (says l output) (fix-checks ++ short-output ∷ [])
-    count-passed = passes (says l output) bad-count (fix-checks ++ short-output ∷ []) (good-count h g)
+    count-passed : refusal K writing (asked-to-write l output) ≡ first (says K l output) (fix-checks ++ short-output ∷ [])
+    count-passed = passes (says K l output) bad-count (fix-checks ++ short-output ∷ []) (good-count h g)
 
-    pub writes-fix : (k : ℕ) → first (says l output) fix-checks ≡ some k → refusal trail writing (asked-to-write l output) ≡ some k
-    writes-fix k e = count-passed ∙ some-first (says l output) fix-checks (short-output ∷ []) k e
+    pub writes-fix : (k : ℕ) → first (says K l output) fix-checks ≡ some k → refusal K writing (asked-to-write l output) ≡ some k
+    writes-fix k e = count-passed ∙ some-first (says K l output) fix-checks (short-output ∷ []) k e
 
-    pub writes-15 : first (says l output) fix-checks ≡ none → output < 10 + 8 * length l → refusal trail writing (asked-to-write l output) ≡ some 15
-    writes-15 e s = count-passed ∙ none-first (says l output) fix-checks (short-output ∷ []) e ∙ stops (says l output) short-output [] (short s)
+    pub writes-15 : first (says K l output) fix-checks ≡ none → output < record-length K (length l) → refusal K writing (asked-to-write l output) ≡ some 15
+    writes-15 e s = count-passed ∙ none-first (says K l output) fix-checks (short-output ∷ []) e ∙ stops (says K l output) short-output [] (short s)
 
-    pub writes-none : first (says l output) fix-checks ≡ none → 10 + 8 * length l ≤ output → refusal trail writing (asked-to-write l output) ≡ none
+    pub writes-none : first (says K l output) fix-checks ≡ none → record-length K (length l) ≤ output → refusal K writing (asked-to-write l output) ≡ none
     unfolding first
-    writes-none e s = count-passed ∙ none-first (says l output) fix-checks (short-output ∷ []) e ∙ passes (says l output) short-output [] (not-short s)
+    writes-none e s = count-passed ∙ none-first (says K l output) fix-checks (short-output ∷ []) e ∙ passes (says K l output) short-output [] (not-short s)
 
 -- no fixes are turned away by none of checks 7 to 9
-pub none-turned-away : (l : List Fix) (output : ℕ) → length l ≡ 0 → none ≡ first (says l output) fix-checks
+pub none-turned-away : (K : Kind) (l : List Fix) (output : ℕ) → length l ≡ 0 → none ≡ first (says K l output) fix-checks
 unfolding first sentence some-outside some-early of-ends
-none-turned-away [] output h = refl
-none-turned-away (f ∷ l) output h = absurd (omega arith)
+none-turned-away K [] output h = refl
+none-turned-away K (f ∷ l) output h = absurd (omega arith)
 
 -- a list that is turned away by none of the writer's checks fits a record and the output
-pub writes-fit : (l : List Fix) (output : ℕ) → refusal trail writing (asked-to-write l output) ≡ none → (length l ≤ 4096) × (10 + 8 * length l ≤ output)
+pub writes-fit : (K : Kind) (l : List Fix) (output : ℕ) → refusal K writing (asked-to-write l output) ≡ none → (length l ≤ 4096) × (record-length K (length l) ≤ output)
 unfolding sentence
-writes-fit l output h = go (none-holds (says l output) (bad-count ∷ (fix-checks ++ short-output ∷ [])) h)
+writes-fit K l output h = go (none-holds (says K l output) (bad-count ∷ (fix-checks ++ short-output ∷ [])) h)
   where
-    go : NoneHolds (says l output) (bad-count ∷ (fix-checks ++ short-output ∷ [])) → (length l ≤ 4096) × (10 + 8 * length l ≤ output)
+    go : NoneHolds (says K l output) (bad-count ∷ (fix-checks ++ short-output ∷ [])) → (length l ≤ 4096) × (record-length K (length l) ≤ output)
     go (and-not h3 (and-not h7 (and-not h8 (and-not h9 (and-not h15 no-check))))) =
-        (ltb-false 4096 (length l) (neither (eqb (length l) 0) (ltb 4096 (length l)) h3 .1), ltb-false output (10 + 8 * length l) h15)
+        (ltb-false 4096 (length l) (neither (eqb (length l) 0) (ltb 4096 (length l)) h3 .1), ltb-false output (record-length K (length l)) h15)
 
 -- the answer and the output, as the definitions have them; n is the length of the list
-module _ (l : List Fix) (out : List ℕ) (n : ℕ) (is : length l ≡ n) (h : write-refusal trail l out ≡ none) where
-  pub writes-length : gives (10 + 8 * n) ≡ write-answer trail l out
+module _ (K : Kind) (kind : IsKind K) (l : List Fix) (out : List ℕ) (n : ℕ) (is : length l ≡ n) (h : write-refusal K l out ≡ none) where
+  pub writes-length : gives (record-length K n) ≡ write-answer K l out
   writes-length = rw (h, is) refl
 
-  pub writes-record : sets (sets out 0 (header-bytes trail 65535 n)) 10 (all-bytes trail l) ≡ written trail l out
-  writes-record = rw (← is) (record-stores out 65535 l (writes-fit l (length out) h .1) ∙ rw h refl)
+  pub writes-record : sets (sets out 0 (header-bytes K 65535 n)) 10 (all-bytes K l) ≡ written K l out
+  writes-record = rw (← is) (record-stores K kind out 65535 l (writes-fit K l (length out) h .1) ∙ rw h refl)
 
-pub writes-refusal : (l : List Fix) (out : List ℕ) (k : ℕ) → write-refusal trail l out ≡ some k → (turns-away k ≡ write-answer trail l out) × (out ≡ written trail l out)
-writes-refusal l out k h = (rw h refl, rw h refl)
+pub writes-refusal : (K : Kind) (l : List Fix) (out : List ℕ) (k : ℕ) → write-refusal K l out ≡ some k → (turns-away k ≡ write-answer K l out) × (out ≡ written K l out)
+writes-refusal K l out k h = (rw h refl, rw h refl)

@@ -1,12 +1,12 @@
-//! Many random cases of all operations, by the C interface and by the plain version, and moved in time by the C interface
-//! again: `compare [--cases N] [--seed S]`. A difference is printed with the smallest trail found that shows it, and the
-//! exit status is 1.
+//! Many random cases of all operations, by the C interface and by the plain version, and moved in time and in
+//! millimetres by the C interface again: `compare [--cases N] [--seed S]`. A difference is printed with the smallest
+//! trail found that shows it, and the exit status is 1.
 #![forbid(unsafe_code)]
 
 use std::process::ExitCode;
 
 use trails_tests::cases::Settings;
-use trails_tests::compare::{plain, proved, run, twin, Case, Outcome, Sides};
+use trails_tests::compare::{plain, proved, run, tenfold, twin, Case, Outcome, Sides};
 
 const USUAL: Settings = Settings {
     seed: 20_240_229,
@@ -67,10 +67,16 @@ fn show(case: &Case) {
     show_given(case);
     show_outcome("interface", case, &proved(case));
     show_outcome("plain", case, &plain(case));
-    if let Some(twin) = twin::differing(&proved, case) {
-        println!("moved in time it comes out otherwise:");
-        show_given(&twin);
-        show_outcome("interface", &twin, &proved(&twin));
+    let others = [
+        ("moved in time", twin::differing(&proved, case)),
+        ("in millimetres", tenfold::differing(&proved, case)),
+    ];
+    for (how, other) in others {
+        if let Some(other) = other {
+            println!("{how} it comes out otherwise:");
+            show_given(&other);
+            show_outcome("interface", &other, &proved(&other));
+        }
     }
 }
 

@@ -1,30 +1,44 @@
 //! Cases for the comparison: a buffer, mostly with a small trail, and an operation that fits it or is refused.
 
 use super::{Case, Operation};
-use crate::cases::{spoil, Draft, Random};
+use crate::cases::{in_columns, kind_of, spoil, Draft, Random};
 use crate::columns::Columns;
 use crate::plain::crossing::Question;
+use crate::plain::kinds::{Kind, KINDS};
 use crate::plain::lists::Call;
-use crate::plain::{read, record_length, Fix, Head, MOST_FIXES, NEVER};
+use crate::plain::{read, Fix, Trail, MOST_FIXES, NEVER};
 use crate::questions::{Asked, Moment};
 use crate::shapes::{trail, SHAPES};
 
-pub fn case(random: &mut Random) -> Case {
-    let buffer = buffer(random);
+/// A case, and the kind that its record was made as, before it was damaged.
+pub struct Drawn {
+    pub made: Kind,
+    pub case: Case,
+}
+
+pub fn drawn(random: &mut Random) -> Drawn {
+    let made = random.pick(&KINDS);
+    let case = case(made, random);
+    Drawn { made, case }
+}
+
+fn case(made: Kind, random: &mut Random) -> Case {
+    let buffer = buffer(made, random);
+    let kind = kind_of(&buffer, made);
     let operation = match random.between(0, 10) {
         0 => Operation::Check,
         1 => Operation::Read(positions(random)),
-        2 => return writing(random),
+        2 => return writing(made, random),
         3 => Operation::List,
-        4 => Operation::Age(tolerance(random)),
-        5 => Operation::Days(days(random)),
-        6 => Operation::Run(calls(random)),
+        4 => Operation::Age(tolerance(kind, random)),
+        5 => Operation::Days(days(kind, random)),
+        6 => Operation::Run(calls(kind, random)),
         7 => Operation::Place(asked::<Moment>(&buffer, [11, 12], random)),
         8 => Operation::Crosses(asked::<Question>(&buffer, [13, 14], random)),
         9 => Operation::ReadAll(lent_columns(&buffer, random)),
         _ => {
             let question = asked::<Question>(&buffer, [13, 14], random);
-            Operation::CrossesAfter(calls(random), question)
+            Operation::CrossesAfter(calls(kind, random), question)
         }
     };
     Case { buffer, operation }
@@ -44,44 +58,54 @@ fn size(random: &mut Random) -> usize {
     n as usize
 }
 
-fn fixes(n: usize, random: &mut Random) -> Vec<Fix> {
+/// A trail of any shape.
+fn any(kind: Kind, n: usize, random: &mut Random) -> Trail {
     let shape = random.pick(&SHAPES);
-    trail(shape, n, random)
+    trail(kind, shape, n, random)
+}
+
+/// A mark that others may have left, or none.
+pub fn mark(kind: Kind, random: &mut Random) -> u16 {
+    let foreign = random.between(0, kind.top.into()) as u16;
+    let low = random.between(0, 300) as u16;
+    random.pick(&[NEVER, NEVER, 0, kind.top, low, foreign])
 }
 
 /// A record of this many fixes with any mark, half of the time with bytes after it.
-fn accepted(n: usize, random: &mut Random) -> Draft {
-    let foreign = random.between(0, 32_000) as u16;
-    let low = random.between(0, 300) as u16;
-    let mark = random.pick(&[NEVER, NEVER, 0, 32_000, low, foreign]);
+fn accepted(kind: Kind, n: usize, random: &mut Random) -> Draft {
+    let trail = Trail {
+        mark: mark(kind, random),
+        ..any(kind, n, random)
+    };
     let after = random.between(-20, 20).max(0) as usize;
-    let fixes = fixes(n, random);
-    let tail = random.bytes(after);
-    Draft::new(fixes, mark, tail)
+    Draft::new(trail, random.bytes(after))
 }
 
-fn buffer(random: &mut Random) -> Vec<u8> {
+fn buffer(kind: Kind, random: &mut Random) -> Vec<u8> {
     let n = size(random);
     match random.between(0, 99) {
-        0..=59 => accepted(n, random).bytes(),
-        60..=89 => damaged(n, random).bytes(),
-        90..=94 => turned(accepted(n, random).bytes(), random),
+        0..=59 => accepted(kind, n, random).bytes(),
+        60..=86 => damaged(kind, n, random).bytes(),
+        87..=89 => {
+            let mut draft = accepted(kind, n, random);
+            draft.claim_another_kind(random);
+            draft.bytes()
+        }
+        90..=94 => turned(accepted(kind, n, random).bytes(), random),
         95..=97 => {
             let size = random.between(0, 60) as usize;
             random.bytes(size)
         }
         _ => {
             let n = random.between(1, 6) as usize;
-            let mut noise = Draft::new(Vec::new(), NEVER, random.bytes(record_length(n)));
-            noise.head = Head::of(NEVER, n);
-            noise.bytes()
+            Draft::noise(kind, random, n, 10).bytes()
         }
     }
 }
 
 /// A record with one fault or some, made from the latest check's to the first's.
-fn damaged(n: usize, random: &mut Random) -> Draft {
-    let mut draft = accepted(n, random);
+fn damaged(kind: Kind, n: usize, random: &mut Random) -> Draft {
+    let mut draft = accepted(kind, n, random);
     let most = random.pick(&[1, 1, 1, 2, 3]);
     // a lone fix has nobody to be out of order with
     let last = if n == 1 { 7 } else { 9 };
@@ -133,28 +157,28 @@ fn lent_columns(buffer: &[u8], random: &mut Random) -> Columns {
     Columns::any(lengths, random)
 }
 
-fn tolerance(random: &mut Random) -> u16 {
+fn tolerance(kind: Kind, random: &mut Random) -> u16 {
     loop {
-        if let Call::Tolerance(e) = Call::any(random) {
+        if let Call::Tolerance(e) = Call::any(kind, random) {
             return e;
         }
     }
 }
 
-fn days(random: &mut Random) -> u16 {
+fn days(kind: Kind, random: &mut Random) -> u16 {
     loop {
-        if let Call::Days(days) = Call::any(random) {
+        if let Call::Days(days) = Call::any(kind, random) {
             return days;
         }
     }
 }
 
 /// A list of agings, which may be empty and in few cases is long.
-fn calls(random: &mut Random) -> Vec<u32> {
+fn calls(kind: Kind, random: &mut Random) -> Vec<u32> {
     let most = random.pick(&[3, 8, 8, 8, 40]);
     let many = random.between(0, most);
     (0..many)
-        .map(|_| Call::any(random).number(random))
+        .map(|_| Call::any(kind, random).number(random))
         .collect()
 }
 
@@ -174,35 +198,36 @@ fn asked<Q: Asked>(buffer: &[u8], faults: [u8; 2], random: &mut Random) -> Q {
 // ---- the writer
 
 /// A list to write, into an output that in two of five cases is too short.
-fn writing(random: &mut Random) -> Case {
-    let list = list(random);
-    let length = record_length(list.len()) as i64;
+fn writing(kind: Kind, random: &mut Random) -> Case {
+    let list = list(kind, random);
+    let length = kind.record_length(list.len()) as i64;
     let short = random.between(0, length - 1);
     let long = random.between(length, length + 40);
     let bytes = random.pick(&[length, long, long, short, length - 1]);
     Case {
         buffer: random.bytes(bytes as usize),
-        operation: Operation::Write(columns(&list, random)),
+        operation: Operation::Write(kind, columns(&list, random)),
     }
 }
 
 /// A list of fixes, good or refused by one of the checks 3, 7, 8 and 9, or some.
-fn list(random: &mut Random) -> Vec<Fix> {
+fn list(kind: Kind, random: &mut Random) -> Vec<Fix> {
     let n = size(random).max(2);
-    let mut list = fixes(n, random);
+    let mut list = any(kind, n, random).fixes;
+    let kind = in_columns(kind);
     match random.between(0, 19) {
         0 => list.clear(),
         1 if random.one_in(20) => list.resize(MOST_FIXES + 1, list[0]),
         2..=6 => {
             let one = random.between(7, 9) as u8;
             let other = random.between(7, 9) as u8;
-            spoil(one.max(other), &mut list, random);
-            spoil(one.min(other), &mut list, random);
+            spoil(one.max(other), kind, &mut list, random);
+            spoil(one.min(other), kind, &mut list, random);
         }
         7 => list.truncate(1),
         8 => {
             list.truncate(1);
-            spoil(7, &mut list, random);
+            spoil(7, kind, &mut list, random);
         }
         _ => {}
     }

@@ -7,7 +7,7 @@ use super::{Case, Operation};
 use crate::cases::Random;
 use crate::columns::Columns;
 use crate::plain::crossing::Question;
-use crate::plain::record_length;
+use crate::plain::kinds::{Kind, CENTIMETRES, MILLIMETRES};
 
 /// How many bytes of buffers may be tried, with some more for each try.
 const EFFORT: usize = 50_000_000;
@@ -58,6 +58,9 @@ impl Search<'_> {
         self.shorten(Case::rest, Case::without_rest);
         self.earlier();
         self.nearer_to_0();
+        if let Some(candidate) = self.case.in_centimetres() {
+            self.keep(candidate);
+        }
         self.case != before || self.small_at_once()
     }
 
@@ -143,7 +146,7 @@ impl Case {
     /// The columns that are written; then the buffer is the output, and holds no record.
     fn written(&self) -> Option<&Columns> {
         match &self.operation {
-            Operation::Write(columns) => Some(columns),
+            Operation::Write(_, columns) => Some(columns),
             _ => None,
         }
     }
@@ -158,10 +161,20 @@ impl Case {
 
     fn with_columns(&self, change: impl FnOnce(&mut Columns)) -> Case {
         let mut case = self.clone();
-        if let Operation::Write(columns) | Operation::ReadAll(columns) = &mut case.operation {
+        if let Operation::Write(_, columns) | Operation::ReadAll(columns) = &mut case.operation {
             change(columns);
         }
         case
+    }
+
+    /// The kind in whose form the buffer has its fixes: of bytes that have no kind, whatever kind that is.
+    fn form(&self) -> Kind {
+        self.kind(CENTIMETRES)
+    }
+
+    /// Where a fix begins.
+    fn at(&self, fix: usize) -> usize {
+        self.form().record_length(fix)
     }
 
     /// How many fixes the buffer has in full, if it holds a record, damaged or not.
@@ -170,13 +183,13 @@ impl Case {
             return 0;
         }
         let count = u16::from_le_bytes([self.buffer[8], self.buffer[9]]);
-        usize::from(count).min((self.buffer.len() - HEAD) / 8)
+        usize::from(count).min((self.buffer.len() - HEAD) / self.form().fix_bytes())
     }
 
     /// Length and count follow, and are as wrong as they were.
     fn without_fixes(&self, range: Range<usize>) -> Case {
         let mut case = self.clone();
-        let bytes = record_length(range.start)..record_length(range.end);
+        let bytes = self.at(range.start)..self.at(range.end);
         let fewer = range.len() as u16;
         let length = u32::from_le_bytes(self.array(0)).wrapping_sub(bytes.len() as u32);
         let count = u16::from_le_bytes(self.array(8)).wrapping_sub(fewer);
@@ -218,9 +231,38 @@ impl Case {
     /// So that an output is as much too short, or too long, as it was.
     fn without_rows_and_output(&self, range: Range<usize>) -> Case {
         let mut case = self.without_rows(range.clone());
-        let left = self.buffer.len().saturating_sub(8 * range.len());
-        case.buffer.truncate(left);
+        let less = self.form().fix_bytes() * range.len();
+        case.buffer.truncate(self.buffer.len().saturating_sub(less));
         case
+    }
+
+    /// The same numbers in the form of kind 1, if they are in that of kind 2 and a record's bytes hold each. An output
+    /// is as much too short, or too long, as it was, and a length as wrong.
+    fn in_centimetres(&self) -> Option<Case> {
+        let mut case = self.clone();
+        let less = MILLIMETRES.fix_bytes() - CENTIMETRES.fix_bytes();
+        if self.form() != MILLIMETRES {
+            return None;
+        }
+        if let Operation::Write(kind, columns) = &mut case.operation {
+            let shorter = less * columns.fixes().len();
+            let left = self.buffer.len().saturating_sub(shorter);
+            case.buffer.truncate(left);
+            *kind = CENTIMETRES;
+            return Some(case);
+        }
+        for k in (0..self.fixes()).rev() {
+            for at in [self.at(k) + 8, self.at(k) + 4] {
+                i16::try_from(i32::from_le_bytes(self.array(at))).ok()?;
+                // the upper two bytes say only the sign
+                case.buffer.drain(at + 2..at + 4);
+            }
+        }
+        let shorter = (less * self.fixes()) as u32;
+        let length = u32::from_le_bytes(self.array(0)).wrapping_sub(shorter);
+        case.buffer[..4].copy_from_slice(&length.to_le_bytes());
+        case.buffer[4..6].copy_from_slice(&CENTIMETRES.code.to_le_bytes());
+        Some(case)
     }
 
     /// How many calls or positions are listed.
@@ -247,7 +289,7 @@ impl Case {
         if self.written().is_some() || self.buffer.len() < HEAD {
             return 0;
         }
-        record_length(self.fixes())
+        self.at(self.fixes())
     }
 
     fn rest(&self) -> usize {
@@ -272,17 +314,15 @@ impl Case {
     fn time(&self, k: usize) -> u32 {
         match self.written() {
             Some(columns) => columns.t[k],
-            None => u32::from_le_bytes(self.array(record_length(k))),
+            None => u32::from_le_bytes(self.array(self.at(k))),
         }
     }
 
     fn set_time(&mut self, k: usize, t: u32) {
+        let at = self.at(k);
         match &mut self.operation {
-            Operation::Write(columns) => columns.t[k] = t,
-            _ => {
-                let at = record_length(k);
-                self.buffer[at..at + 4].copy_from_slice(&t.to_le_bytes());
-            }
+            Operation::Write(_, columns) => columns.t[k] = t,
+            _ => self.buffer[at..at + 4].copy_from_slice(&t.to_le_bytes()),
         }
     }
 
@@ -396,12 +436,17 @@ impl Case {
     fn visit(&mut self, change: Visit) {
         self.visit_arguments(change);
         if self.rest_from() > 0 {
-            self.visit_two(6, change, u16::from_le_bytes, u16::to_le_bytes);
+            self.visit_at(6, change, u16::from_le_bytes, u16::to_le_bytes);
         }
+        let width = self.form().width;
         for k in 0..self.fixes() {
-            let at = record_length(k) + 4;
-            self.visit_two(at, change, i16::from_le_bytes, i16::to_le_bytes);
-            self.visit_two(at + 2, change, i16::from_le_bytes, i16::to_le_bytes);
+            let x = self.at(k) + 4;
+            for at in [x, x + width] {
+                match width {
+                    2 => self.visit_at(at, change, i16::from_le_bytes, i16::to_le_bytes),
+                    _ => self.visit_at(at, change, i32::from_le_bytes, i32::to_le_bytes),
+                }
+            }
         }
         let from = self.rest_from();
         for byte in &mut self.buffer[from..] {
@@ -409,16 +454,16 @@ impl Case {
         }
     }
 
-    fn visit_two<T: Copy + TryInto<i128> + TryFrom<i128>>(
+    fn visit_at<const N: usize, T: Copy + TryInto<i128> + TryFrom<i128>>(
         &mut self,
         at: usize,
         change: Visit,
-        from: fn([u8; 2]) -> T,
-        to: fn(T) -> [u8; 2],
+        from: fn([u8; N]) -> T,
+        to: fn(T) -> [u8; N],
     ) {
         let mut n = from(self.array(at));
         visit(&mut n, change);
-        self.buffer[at..at + 2].copy_from_slice(&to(n));
+        self.buffer[at..at + N].copy_from_slice(&to(n));
     }
 
     fn visit_arguments(&mut self, change: Visit) {
@@ -429,7 +474,7 @@ impl Case {
                 t.iter_mut().for_each(|n| visit(n, change));
                 x.iter_mut().chain(y).for_each(|n| visit(n, change));
             }
-            Operation::Write(Columns { x, y, .. }) => {
+            Operation::Write(_, Columns { x, y, .. }) => {
                 x.iter_mut().chain(y).for_each(|n| visit(n, change));
             }
             Operation::Age(n) | Operation::Days(n) => visit(n, change),

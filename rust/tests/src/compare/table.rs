@@ -1,4 +1,4 @@
-//! How often each operation met each refusal.
+//! How often each operation met each refusal, with records of each kind.
 
 use std::cmp::Ordering;
 use std::collections::BTreeMap;
@@ -6,6 +6,8 @@ use std::fmt;
 
 use super::{Case, Crossed, Operation, Reply};
 use crate::plain;
+use crate::plain::kinds::{Kind, KINDS, MILLIMETRES};
+use crate::plain::thinning;
 
 /// The operations, and what each can be refused for besides checks 1 to 9; the writer makes only some of those. The
 /// listing tells its refusal in its text, so it is counted by what the checks say of its record.
@@ -26,30 +28,49 @@ const OPERATIONS: [(&str, &[usize]); 11] = [
 /// With so many cases none of them may be missing.
 const ENOUGH: usize = 20_000;
 
+/// What was met with records of one kind.
 #[derive(Default)]
-pub struct Table {
+struct Block {
     /// by refusal, 0 for none, and operation
     met: [[usize; OPERATIONS.len()]; 16],
     said: BTreeMap<&'static str, usize>,
+}
+
+#[derive(Default)]
+pub struct Table {
+    /// in the order of `KINDS`
+    blocks: [Block; KINDS.len()],
     pub(super) twins: usize,
+    pub(super) tenfold: usize,
 }
 
 /// What answers that aren't refusals may say, or what they may be given to, each by its name.
-const SAID: [(&str, &[&str]); 3] = [
+const SAID: [(&str, &[&str]); 4] = [
     ("crossings", &["yes", "no"]),
     ("lists", &["with calls turned away", "with none"]),
     (
         "columns",
         &["empty", "too short", "just enough", "longer", "unequal"],
     ),
+    ("agings", &[WIDE, APART]),
 ];
+
+/// Of agings: a sum of squares that 64 bits don't hold, and two of which only the part above 64 bits differs. Kind 1
+/// has neither.
+const WIDE: &str = "with sums above 64 bits";
+const APART: &str = "with sums apart above 64 bits only";
+
+/// Whether document 02 lets answers about this kind say it, or be given to it.
+fn can_be_said(kind: Kind, what: &str) -> bool {
+    kind == MILLIMETRES || ![WIDE, APART].contains(&what)
+}
 
 fn column(operation: &Operation) -> usize {
     match operation {
         Operation::Check => 0,
         Operation::Read(_) => 1,
         Operation::ReadAll(_) => 2,
-        Operation::Write(_) => 3,
+        Operation::Write(..) => 3,
         Operation::List => 4,
         Operation::Age(_) => 5,
         Operation::Days(_) => 6,
@@ -71,6 +92,9 @@ fn said(case: &Case, reply: &Reply) -> Vec<&'static str> {
         (Operation::ReadAll(columns), Reply::Answer(answer)) if answer.refusal == 0 => {
             said_of_columns(columns.lengths(), answer.value as usize)
         }
+        (Operation::Age(_), Reply::Answer(answer)) if answer.refusal == 0 => {
+            said_of_sums(&case.buffer)
+        }
         _ => Vec::new(),
     }
 }
@@ -89,6 +113,22 @@ fn said_of_columns(lengths: [usize; 3], count: usize) -> Vec<&'static str> {
     said
 }
 
+/// Of the sums that the whole trail's inner fixes have.
+fn said_of_sums(record: &[u8]) -> Vec<&'static str> {
+    let trail = plain::read(record);
+    let mut sums = trail.map_or(Vec::new(), |trail| thinning::sums(&trail.fixes));
+    let low = |sum: &i128| *sum as u64;
+    sums.sort_by_key(|sum| (low(sum), *sum));
+    let mut pairs = sums.windows(2);
+    let wide = sums.iter().any(|&sum| sum != low(&sum).into());
+    let apart = pairs.any(|pair| low(&pair[0]) == low(&pair[1]) && pair[0] != pair[1]);
+    let both = [(wide, WIDE), (apart, APART)];
+    both.into_iter()
+        .filter(|(met, _)| *met)
+        .map(|(_, what)| what)
+        .collect()
+}
+
 /// Whether document 01 has this refusal among the operation's.
 fn possible(column: usize, refusal: usize) -> bool {
     let (name, own) = OPERATIONS[column];
@@ -100,35 +140,23 @@ fn possible(column: usize, refusal: usize) -> bool {
     }
 }
 
-impl Table {
-    pub fn count(&mut self, case: &Case, reply: &Reply) {
-        let checked = || plain::read(&case.buffer).err().unwrap_or(0).into();
-        let refusal = reply.refusal().unwrap_or_else(checked);
-        self.met[refusal as usize][column(&case.operation)] += 1;
-        for what in said(case, reply) {
-            *self.said.entry(what).or_default() += 1;
-        }
-    }
-
+impl Block {
     fn cases(&self) -> usize {
         self.met.iter().flatten().sum()
     }
 
-    /// What should have been met and wasn't, where the cases are enough.
-    pub fn missing(&self) -> Vec<String> {
+    fn missing(&self, kind: Kind) -> Vec<String> {
         let mut missing = Vec::new();
-        if self.cases() < ENOUGH {
-            return missing;
-        }
         for (column, (name, _)) in OPERATIONS.iter().enumerate() {
             let unmet =
                 |&refusal: &usize| possible(column, refusal) && self.met[refusal][column] == 0;
             let unmet = (0..self.met.len()).filter(unmet);
-            missing.extend(unmet.map(|refusal| format!("{name} with refusal {refusal}")));
+            missing.extend(unmet.map(|refusal| format!("{kind}: {name} with refusal {refusal}")));
         }
         for (group, all) in SAID {
-            let unmet = all.iter().filter(|what| !self.said.contains_key(*what));
-            missing.extend(unmet.map(|what| format!("{group}: {what}")));
+            let unmet = |what: &&&str| can_be_said(kind, what) && !self.said.contains_key(**what);
+            let unmet = all.iter().filter(unmet);
+            missing.extend(unmet.map(|what| format!("{kind}: {group} {what}")));
         }
         missing
     }
@@ -138,7 +166,7 @@ impl Table {
             0 => "accepted".to_string(),
             number => format!("refused {number}"),
         };
-        write!(f, "{name:10}")?;
+        write!(f, "{name:12}")?;
         for (column, many) in self.met[refusal].iter().enumerate() {
             let shown = match many {
                 0 if !possible(column, refusal) => "-".to_string(),
@@ -148,11 +176,10 @@ impl Table {
         }
         writeln!(f, "{:>9}", self.met[refusal].iter().sum::<usize>())
     }
-}
 
-impl fmt::Display for Table {
-    fn fmt(&self, f: &mut fmt::Formatter) -> fmt::Result {
-        write!(f, "{:10}", "")?;
+    /// The table of one kind, under its name.
+    fn show(&self, f: &mut fmt::Formatter, kind: Kind) -> fmt::Result {
+        write!(f, "{:12}", kind.unit)?;
         for (name, _) in OPERATIONS {
             write!(f, "{name:>8}")?;
         }
@@ -160,21 +187,67 @@ impl fmt::Display for Table {
         for refusal in 0..self.met.len() {
             self.row(f, refusal)?;
         }
-        write!(f, "{:10}", "all")?;
+        write!(f, "{:12}", "all")?;
         for column in 0..OPERATIONS.len() {
             let all: usize = self.met.iter().map(|row| row[column]).sum();
             write!(f, "{all:>8}")?;
         }
         writeln!(f, "{:>9}", self.cases())?;
         for (group, all) in SAID {
+            let can = all.iter().filter(|what| can_be_said(kind, what));
             let met = |what| self.said.get(what).copied().unwrap_or(0);
-            let shown: Vec<String> = all
-                .iter()
-                .map(|&what| format!("{} {what}", met(what)))
-                .collect();
-            writeln!(f, "{group}: {}", shown.join(", "))?;
+            let shown: Vec<String> = can.map(|&what| format!("{} {what}", met(what))).collect();
+            if !shown.is_empty() {
+                writeln!(f, "{group}: {}", shown.join(", "))?;
+            }
+        }
+        Ok(())
+    }
+}
+
+impl Table {
+    /// Counts a case whose record was made as this kind.
+    pub fn count(&mut self, case: &Case, made: Kind, reply: &Reply) {
+        let kind = case.kind(made);
+        let checked = || plain::read(&case.buffer).err().unwrap_or(0).into();
+        let refusal = reply.refusal().unwrap_or_else(checked);
+        let blocks = KINDS.into_iter().zip(&mut self.blocks);
+        for (_, block) in blocks.filter(|(of, _)| *of == kind) {
+            block.met[refusal as usize][column(&case.operation)] += 1;
+            for what in said(case, reply) {
+                *block.said.entry(what).or_default() += 1;
+            }
+        }
+    }
+
+    fn cases(&self) -> usize {
+        self.blocks.iter().map(Block::cases).sum()
+    }
+
+    /// What should have been met and wasn't, where the cases are enough.
+    pub fn missing(&self) -> Vec<String> {
+        let mut missing = Vec::new();
+        if self.cases() < ENOUGH {
+            return missing;
+        }
+        for (kind, block) in KINDS.into_iter().zip(&self.blocks) {
+            missing.extend(block.missing(kind));
+        }
+        let relations = [("twins", self.twins), ("ten times", self.tenfold)];
+        let unmet = relations.into_iter().filter(|(_, many)| *many == 0);
+        missing.extend(unmet.map(|(what, _)| what.to_string()));
+        missing
+    }
+}
+
+impl fmt::Display for Table {
+    fn fmt(&self, f: &mut fmt::Formatter) -> fmt::Result {
+        for (kind, block) in KINDS.into_iter().zip(&self.blocks) {
+            block.show(f, kind)?;
+            writeln!(f)?;
         }
         writeln!(f, "twins: {}", self.twins)?;
+        writeln!(f, "ten times: {}", self.tenfold)?;
         write!(f, "{} cases, 0 differences", self.cases())
     }
 }

@@ -51,7 +51,7 @@ fn expected(outcome: &Outcome, fixes: usize, by: u32) -> Outcome {
             let filled = columns.t.iter_mut().take(answer.value as usize);
             filled.for_each(later);
         }
-        (Reply::Answer(answer), Operation::Write(_)) if answer.refusal == 0 => {
+        (Reply::Answer(answer), Operation::Write(..)) if answer.refusal == 0 => {
             let written = Case {
                 buffer: outcome.after.buffer.clone(),
                 operation: Operation::Check,

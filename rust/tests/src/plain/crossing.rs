@@ -1,7 +1,8 @@
 //! A plain version of the crossing question, and of what the claim about lists of agings says of a box and a place.
 
+use super::kinds::Kind;
 use super::place::{Place, Time};
-use super::{read, refuse_if, Fix};
+use super::{read, refuse_if, Fix, Trail};
 
 /// A box, whose edges belong to it.
 #[derive(Clone, Copy, Debug, PartialEq, Eq)]
@@ -89,7 +90,7 @@ impl Area {
 }
 
 /// When a coordinate that goes steadily from one value to another is at the edge, if it changes and gets there.
-fn meeting(from: (u32, i16), to: (u32, i16), edge: i32) -> Option<Time> {
+fn meeting(from: (u32, i32), to: (u32, i32), edge: i32) -> Option<Time> {
     let seconds = i128::from(to.0) - i128::from(from.0);
     let change = i128::from(to.1) - i128::from(from.1);
     let way = i128::from(edge) - i128::from(from.1);
@@ -148,18 +149,19 @@ fn bad_window(window: Window, fixes: &[Fix]) -> bool {
     window.end < window.start || !times.contains(&window.start) || !times.contains(&window.end)
 }
 
-/// Check 14: "A box edge is outside −16,000 to 16,000, or a low edge is above its high edge."
-fn bad_box(area: Area) -> bool {
-    let edges = [area.left, area.right, area.bottom, area.top];
-    let outside = |edge: &i32| !(-16_000..=16_000).contains(edge);
-    edges.iter().any(outside) || area.left > area.right || area.bottom > area.top
+/// Check 14: "A box edge is outside −16,000 to 16,000, or a low edge is above its high edge." It reads the record's own
+/// limits.
+fn bad_box(kind: Kind, area: Area) -> bool {
+    let mut edges = [area.left, area.right, area.bottom, area.top].into_iter();
+    let outside = |edge: i32| kind.is_outside(edge);
+    edges.any(outside) || area.left > area.right || area.bottom > area.top
 }
 
 /// The crossing question: checks 1 to 9, 13 and 14. The time is in seconds after the first fix.
 pub fn crosses(lent: &[u8], question: &Question) -> Result<Option<Time>, u8> {
-    let fixes = read(lent)?.fixes;
+    let Trail { kind, fixes, .. } = read(lent)?;
     refuse_if(13, bad_window(question.window, &fixes))?;
-    refuse_if(14, bad_box(question.area))?;
+    refuse_if(14, bad_box(kind, question.area))?;
     let time = earliest(&fixes, question);
     Ok(time.map(|time| time.since(fixes[0].t)))
 }

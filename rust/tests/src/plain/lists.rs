@@ -1,9 +1,10 @@
 //! A plain version of lists of agings: the calls, the book beside them, and a crossing asked after them.
 
 use super::crossing::{self, Question};
+use super::kinds::Kind;
 use super::place::Time;
 use super::thinning::{age, age_by_days, thin, tolerance_of};
-use super::{read, Fix, Trail, NEVER};
+use super::{read, Trail, NEVER};
 
 /// A call of aging, with its argument.
 #[derive(Clone, Copy, Debug)]
@@ -34,10 +35,10 @@ impl Call {
     }
 
     /// The tolerance that it applies to an accepted record: none if it is refused, or if its days give none.
-    pub fn applies(self) -> Option<u16> {
+    pub fn applies(self, kind: Kind) -> Option<u16> {
         match self {
-            Call::Tolerance(e) => (e <= 32_000).then_some(e),
-            Call::Days(days) => tolerance_of(days),
+            Call::Tolerance(e) => (e <= kind.top).then_some(e),
+            Call::Days(days) => tolerance_of(kind, days),
         }
     }
 }
@@ -61,36 +62,33 @@ pub fn crosses_after(
     crossing::crosses(lent, question)
 }
 
-/// The plain book: the original's fixes, and E, at first none. It is fed the calls and sees no record.
+/// The plain book: the original, and E, at first none. It is fed the calls and sees no record.
 pub struct Book {
-    fixes: Vec<Fix>,
+    original: Trail,
     pub e: Option<u16>,
 }
 
 impl Book {
-    pub fn of(fixes: &[Fix]) -> Book {
+    pub fn of(original: &Trail) -> Book {
         Book {
-            fixes: fixes.to_vec(),
+            original: original.clone(),
             e: None,
         }
     }
 
     pub fn feed(&mut self, call: Call) {
         // none is less than any tolerance
-        self.e = self.e.max(call.applies());
+        self.e = self.e.max(call.applies(self.original.kind));
     }
 
     /// What is left after the calls.
     pub fn expected(&self) -> Trail {
-        match self.e {
-            None => Trail {
-                mark: NEVER,
-                fixes: self.fixes.clone(),
-            },
-            Some(e) => Trail {
-                mark: e,
-                fixes: thin(&self.fixes, e).kept,
-            },
-        }
+        let Trail { kind, fixes, .. } = &self.original;
+        let (mark, fixes) = match self.e {
+            None => (NEVER, fixes.clone()),
+            Some(e) => (e, thin(fixes, e).kept),
+        };
+        let kind = *kind;
+        Trail { kind, mark, fixes }
     }
 }

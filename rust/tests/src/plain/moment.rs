@@ -27,7 +27,7 @@ impl Whereabouts {
     fn on_leg(i: Fix, j: Fix, moment: i128) -> Whereabouts {
         let d = thousandths_of(j) - thousandths_of(i);
         let since = moment - thousandths_of(i);
-        let axis = |i: i16, j: i16| {
+        let axis = |i: i32, j: i32| {
             let (i, j) = (i128::from(i), i128::from(j));
             i * d + (j - i) * since
         };

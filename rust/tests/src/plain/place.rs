@@ -7,7 +7,7 @@ use super::Fix;
 
 /// The most that the denominator of a time may be where two places are compared by `near`: then every product there
 /// stays within 128 bits.
-pub const FINEST: i128 = 250;
+pub const FINEST: i128 = 80;
 
 /// p/q seconds, with q at least 1.
 #[derive(Clone, Copy, Debug)]
@@ -72,7 +72,7 @@ impl Place {
         let seconds = i128::from(j.t) - i128::from(i.t);
         let since = time.p - time.q * i128::from(i.t);
         let d = time.q * seconds;
-        let axis = |i: i16, j: i16| {
+        let axis = |i: i32, j: i32| {
             let (i, j) = (i128::from(i), i128::from(j));
             i * d + (j - i) * since
         };

@@ -1,6 +1,7 @@
 //! A plain version of thinning and of aging.
 
-use super::{read, record, refuse_if, Fix, Trail, NEVER};
+use super::kinds::Kind;
+use super::{read, refuse_if, Fix, Trail, NEVER};
 
 /// What a thinning keeps, and the count: one for each inner fix measured in each span examined.
 #[derive(Debug, PartialEq, Eq)]
@@ -27,9 +28,9 @@ impl Span {
     }
 
     /// Nx² + Ny² of an inner fix. "Per axis, N = (x_m − x_i)·D − (x_j − x_i)·(t_m − t_i)."
-    fn deviation(&self, m: Fix) -> i128 {
+    fn sum(&self, m: Fix) -> i128 {
         let since = seconds(self.i, m);
-        let n = |i: i16, m: i16, j: i16| {
+        let n = |i: i32, m: i32, j: i32| {
             let (i, m, j) = (i128::from(i), i128::from(m), i128::from(j));
             (m - i) * self.d - (j - i) * since
         };
@@ -45,6 +46,16 @@ impl Span {
     }
 }
 
+/// The sum of each inner fix of a span, whose ends are the first of these fixes and the last.
+pub fn sums(fixes: &[Fix]) -> Vec<i128> {
+    let [i, inner @ .., j] = fixes else {
+        // a lone fix is a span with no inner fix too
+        return Vec::new();
+    };
+    let span = Span::new(*i, *j);
+    inner.iter().map(|&m| span.sum(m)).collect()
+}
+
 /// Douglas-Peucker. Spans that are still to be examined wait in a list, so no depth of splitting can matter.
 pub fn thin(fixes: &[Fix], e: u16) -> Thinned {
     let last = fixes.len() - 1;
@@ -54,17 +65,14 @@ pub fn thin(fixes: &[Fix], e: u16) -> Thinned {
     let mut count = 0;
     let mut waiting = vec![(0, last)];
     while let Some((from, to)) = waiting.pop() {
-        let span = Span::new(fixes[from], fixes[to]);
-        // a lone fix is a span with no inner fix too
-        let inner = fixes.get(from + 1..to).unwrap_or(&[]);
-        let far: Vec<i128> = inner.iter().map(|&m| span.deviation(m)).collect();
-        count += far.len() as u32;
-        let most = far.iter().copied().max().unwrap_or(0);
-        if most <= span.allowance(e) {
+        let sums = sums(&fixes[from..=to]);
+        count += sums.len() as u32;
+        let most = sums.iter().copied().max().unwrap_or(0);
+        if most <= Span::new(fixes[from], fixes[to]).allowance(e) {
             continue;
         }
         // "the furthest, the earliest of equals"
-        let first = far.iter().position(|&one| one == most);
+        let first = sums.iter().position(|&one| one == most);
         let split = from + 1 + first.expect("the greatest is one of them");
         keep[split] = true;
         waiting.push((from, split));
@@ -77,37 +85,43 @@ pub fn thin(fixes: &[Fix], e: u16) -> Thinned {
 
 /// Thins the record at the buffer's start, and answers the count. The bytes after the new record stay.
 fn rewrite(lent: &mut [u8], trail: &Trail, e: u16) -> u32 {
-    let thinned = thin(&trail.fixes, e);
-    let mark = match trail.mark {
-        NEVER => e,
-        mark => mark.max(e),
+    let Thinned { kept, count } = thin(&trail.fixes, e);
+    let aged = Trail {
+        kind: trail.kind,
+        mark: match trail.mark {
+            NEVER => e,
+            mark => mark.max(e),
+        },
+        fixes: kept,
     };
-    let bytes = record(mark, &thinned.kept);
+    let bytes = aged.bytes();
     lent[..bytes.len()].copy_from_slice(&bytes);
-    thinned.count
+    count
 }
 
 /// Aging by tolerance: checks 1 to 10.
 pub fn age(lent: &mut [u8], e: u16) -> Result<u32, u8> {
     let trail = read(lent)?;
-    refuse_if(10, e > 32_000)?;
+    refuse_if(10, e > trail.kind.top)?;
     Ok(rewrite(lent, &trail, e))
 }
 
-/// The tolerance that days give, if they give one.
-pub fn tolerance_of(days: u16) -> Option<u16> {
-    match days {
-        0..=1 => None,
-        2..=6 => Some(10),
-        7..=29 => Some(25),
-        30..=89 => Some(100),
-        90.. => Some(400),
-    }
+/// The tolerance that days give, if they give one: the table's, and for kind 2 "the lesser of 60,000 and ten times the
+/// row".
+pub fn tolerance_of(kind: Kind, days: u16) -> Option<u16> {
+    let row: u16 = match days {
+        0..=1 => return None,
+        2..=6 => 10,
+        7..=29 => 25,
+        30..=89 => 100,
+        90.. => 400,
+    };
+    Some(kind.top.min(kind.times * row))
 }
 
 /// Aging by days: checks 1 to 9.
 pub fn age_by_days(lent: &mut [u8], days: u16) -> Result<u32, u8> {
     let trail = read(lent)?;
-    let aged = tolerance_of(days).map(|e| rewrite(lent, &trail, e));
+    let aged = tolerance_of(trail.kind, days).map(|e| rewrite(lent, &trail, e));
     Ok(aged.unwrap_or(0))
 }

@@ -2,7 +2,7 @@
 
 use std::mem::{offset_of, size_of};
 
-use trails_tests::interface::{Answer, Crossing, Head, Place, Run, Step};
+use trails_tests::interface::{numbers, Answer, Crossing, Head, Place, Run, Step};
 use trails_tests::plain::place::Time;
 
 /// A struct of the header, and where Rust has its fields.
@@ -26,8 +26,8 @@ macro_rules! layout {
 
 pub fn layouts() -> [Layout; 6] {
     [
-        layout!("trails_head", Head: refusal, count, mark),
-        layout!("trails_step", Step: refusal, found, t, x, y),
+        layout!("trails_head", Head: refusal, kind, count, mark),
+        layout!("trails_step", Step: refusal, found, kind, t, x, y),
         layout!("trails_answer", Answer: refusal, value),
         layout!("trails_run", Run: refusal, turned_away),
         layout!("trails_place", Place: refusal, denominator, x, y, whole_x, whole_y),
@@ -36,13 +36,14 @@ pub fn layouts() -> [Layout; 6] {
 }
 
 pub fn of_head(head: Head) -> Vec<i64> {
-    vec![head.refusal.into(), head.count.into(), head.mark.into()]
+    let fields = [head.refusal, head.kind, head.count, head.mark];
+    fields.map(i64::from).into()
 }
 
 pub fn of_step(step: Step) -> Vec<i64> {
     let place = [step.x.into(), step.y.into()];
     [
-        &[step.refusal, step.found, step.t].map(i64::from)[..],
+        &[step.refusal, step.found, step.kind, step.t].map(i64::from)[..],
         &place,
     ]
     .concat()
@@ -68,13 +69,7 @@ pub fn of_place(place: Place) -> Vec<i64> {
 }
 
 pub fn of_crossing(answer: Crossing) -> Vec<i64> {
-    let fields = [
-        answer.refusal,
-        answer.crosses,
-        answer.numerator,
-        answer.denominator,
-    ];
-    by_value(&fields.map(i64::from))
+    by_value(&numbers(answer).map(|n| n as i64))
 }
 
 pub fn of_time(result: Result<Option<Time>, u8>) -> Vec<i64> {

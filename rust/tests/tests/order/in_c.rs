@@ -83,8 +83,8 @@ pub fn from_c(name: &str, calls: &[InC]) -> Vec<Vec<i64>> {
     let source = [
         array("uint8_t", "record", &record),
         array("uint32_t", "t", &columns.t),
-        array("int16_t", "x", &columns.x),
-        array("int16_t", "y", &columns.y),
+        array("int32_t", "x", &columns.x),
+        array("int32_t", "y", &columns.y),
         array("uint32_t", "calls", &CALLS),
         format!(
             "static uint8_t output[TRAILS_TEXT];

@@ -5,25 +5,26 @@
 use trails_tests::columns::Columns;
 use trails_tests::interface::LONGEST_TEXT;
 use trails_tests::plain::crossing::{Area, Question, Window};
-use trails_tests::plain::{record, Fix, NEVER};
+use trails_tests::plain::kinds::MILLIMETRES;
+use trails_tests::plain::{Fix, Trail};
 
 pub const POSITION: usize = 1;
-pub const TOLERANCE: u16 = 12;
+pub const TOLERANCE: u16 = 120;
 pub const DAYS: u16 = 7;
 pub const SECOND: u32 = 103;
 pub const THOUSANDTHS: u16 = 250;
 pub const OUTPUT_BYTES: usize = 40;
 
 /// A tolerance, one that is turned away, and days.
-pub const CALLS: [u32; 3] = [12, 40_000, 65_536 + 7];
+pub const CALLS: [u32; 3] = [120, 60_001, 65_536 + 7];
 
 /// How many elements are lent of each column. All have one more than the longest, so that exchanging two of these
 /// numbers reaches no byte that isn't there.
 pub const COUNTS: [usize; 3] = [1, 2, 3];
 
 /// The cart comes to the box from below, after it was beside it and under it: in the boxes that two exchanged edges give
-/// it is earlier or never.
-const FIXES: [(u32, i16, i16); 3] = [(100, 70, 40), (110, 45, 10), (120, 45, 60)];
+/// it is earlier or never. It is in millimetres, so that the kind is another number than what stands beside it.
+const FIXES: [(u32, i32, i32); 3] = [(100, 700, 400), (110, 450, 100), (120, 450, 600)];
 
 pub const QUESTION: Question = Question {
     window: Window {
@@ -31,15 +32,15 @@ pub const QUESTION: Question = Question {
         end: 119,
     },
     area: Area {
-        left: 10,
-        right: 50,
-        bottom: 30,
-        top: 80,
+        left: 100,
+        right: 500,
+        bottom: 300,
+        top: 800,
     },
 };
 
 /// What stands in the columns beforehand, and is a list to write.
-const COLUMNS: [(u32, i16, i16); 4] = [(7, 1, -5), (8, 2, -6), (9, 3, -7), (10, 4, -8)];
+const COLUMNS: [(u32, i32, i32); 4] = [(7, 1, -5), (8, 2, -6), (9, 3, -7), (10, 4, -8)];
 
 /// The argument of each parameter, for C.
 pub fn arguments() -> Vec<(&'static str, String)> {
@@ -79,15 +80,16 @@ pub struct Lent {
 impl Lent {
     pub fn new() -> Lent {
         let output = vec![0; LONGEST_TEXT].into_boxed_slice();
+        let fixes = FIXES.map(Fix::from).into();
         Lent {
-            record: record(NEVER, &FIXES.map(Fix::from)),
+            record: Trail::never_thinned(MILLIMETRES, fixes).bytes(),
             columns: Columns::of(&COLUMNS.map(Fix::from)),
             output: output.try_into().expect("it has that length"),
         }
     }
 
     /// The parts of the columns that are lent.
-    pub fn lent_columns(&mut self) -> (&mut [u32], &mut [i16], &mut [i16]) {
+    pub fn lent_columns(&mut self) -> (&mut [u32], &mut [i32], &mut [i32]) {
         let Columns { t, x, y } = &mut self.columns;
         let [a, b, c] = COUNTS;
         (&mut t[..a], &mut x[..b], &mut y[..c])

@@ -15,6 +15,7 @@ use fields::{
 use in_c::{from_c, printed, InC};
 use lent::{Lent, CALLS, DAYS, OUTPUT_BYTES, POSITION, QUESTION, SECOND, THOUSANDTHS, TOLERANCE};
 use trails_tests::columns::Columns;
+use trails_tests::plain::kinds::{Kind, CENTIMETRES, MILLIMETRES};
 use trails_tests::plain::lists::{self, Call};
 use trails_tests::plain::{self, crossing};
 use trails_tests::{expected, interface};
@@ -36,6 +37,23 @@ fn fields_stand_where_the_header_puts_them() {
     assert_eq!(printed("fields", &(source + "return 0;\n}\n")), want);
 }
 
+#[test]
+fn constants_are_the_documents() {
+    let constants = [
+        ("CENTIMETRES", usize::from(CENTIMETRES.code)),
+        ("MILLIMETRES", MILLIMETRES.code.into()),
+        ("NEVER", plain::NEVER.into()),
+        ("LONGEST", plain::LONGEST),
+        ("TEXT", interface::LONGEST_TEXT),
+    ];
+    let (mut source, mut want) = (String::from("int main(void) {\n"), String::new());
+    for (name, number) in constants {
+        source += &format!("printf(\"{name} %u\\n\", TRAILS_{name});\n");
+        want += &format!("{name} {number}\n");
+    }
+    assert_eq!(printed("constants", &(source + "return 0;\n}\n")), want);
+}
+
 /// What the plain version answers to a function, with all that was lent after it.
 fn plainly(name: &str) -> Vec<i64> {
     let mut lent = Lent::new();
@@ -45,7 +63,8 @@ fn plainly(name: &str) -> Vec<i64> {
         "trails_check" => of_head(expected::check(record)),
         "trails_read" => of_step(expected::read(record, POSITION)),
         "trails_read_all" => plain_read_all(&mut lent),
-        "trails_write" => plain_write(&mut lent),
+        "trails_write" => plain_write(CENTIMETRES, &mut lent),
+        "trails_write_millimetres" => plain_write(MILLIMETRES, &mut lent),
         "trails_list" => {
             let text = plain::listing(record).into_bytes();
             lent.output[..text.len()].copy_from_slice(&text);
@@ -78,9 +97,10 @@ fn plain_read_all(lent: &mut Lent) -> Vec<i64> {
     of_answer(answer)
 }
 
-fn plain_write(lent: &mut Lent) -> Vec<i64> {
+fn plain_write(kind: Kind, lent: &mut Lent) -> Vec<i64> {
     let list = plain_columns(lent).fixes();
-    of_answer(expected::write(&list, &mut lent.output[..OUTPUT_BYTES]))
+    let output = &mut lent.output[..OUTPUT_BYTES];
+    of_answer(expected::write(kind, &list, output))
 }
 
 /// What the proved functions answer when Rust calls them.
@@ -95,10 +115,13 @@ fn from_rust(name: &str) -> Vec<i64> {
             let (t, x, y) = lent.lent_columns();
             of_answer(trails::interface::read_all(&other.record, t, x, y))
         }
-        "trails_write" => {
-            let (t, x, y) = other.lent_columns();
+        "trails_write" | "trails_write_millimetres" => {
+            let kind = match name {
+                "trails_write" => CENTIMETRES,
+                _ => MILLIMETRES,
+            };
             let output = &mut lent.output[..OUTPUT_BYTES];
-            of_answer(interface::write(t, x, y, output))
+            of_answer(interface::write(kind, &plain_columns(&mut other), output))
         }
         "trails_list" => vec![interface::list(record, &mut lent.output) as i64],
         "trails_age" => of_answer(interface::age(record, TOLERANCE)),
@@ -148,7 +171,7 @@ fn exchanged(function: &Function) -> Vec<InC> {
     all
 }
 
-/// So that the values are no accident: with any two exchanged, something else comes of the call. Of the writer's columns
+/// So that the values are no accident: with any two exchanged, something else comes of the call. Of a writer's columns
 /// the shortest counts, whichever it is, so of their three lengths no exchange is seen by calls.
 #[test]
 fn each_exchange_of_two_arguments_would_be_seen() {
@@ -159,11 +182,9 @@ fn each_exchange_of_two_arguments_would_be_seen() {
         .filter(|(call, numbers)| *numbers == plainly(&call.function.name))
         .map(|(call, _)| call.arguments.join(", "))
         .collect();
-    let writers = ["t, 2, x, 1, y, 3", "t, 3, x, 2, y, 1", "t, 1, x, 3, y, 2"];
-    assert_eq!(
-        unseen,
-        writers.map(|columns| format!("{columns}, output, 40"))
-    );
+    let writer = ["t, 2, x, 1, y, 3", "t, 3, x, 2, y, 1", "t, 1, x, 3, y, 2"];
+    let writer = writer.map(|columns| format!("{columns}, output, 40"));
+    assert_eq!(unseen, [writer.clone(), writer].concat());
     println!(
         "order: {} exchanges, {} seen",
         calls.len(),

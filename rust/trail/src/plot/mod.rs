@@ -38,9 +38,10 @@ usage: trail plot FILE [--original FILE] [--box X0 X1 Y0 Y1] [--window S E]
 Draws FILE's trail on the plane and, below, x and y against time, with its
 kept fixes marked. The picture suits light and dark backgrounds.
 
-  --original FILE  draw this trail under it
-  --tolerance E    draw a band of E centimetres around the trail; if not given,
-                   it is the trail's mark, and none if it was never thinned
+  --original FILE  draw this trail under it, which is in the same unit
+  --tolerance E    draw a band of E, in the trail's unit, around it; if not
+                   given, it is the trail's mark, and none if it was never
+                   thinned
   --box X0 X1 Y0 Y1, --window S E
                    draw the box and the window, and mark where the trail is
                    first in the box; without --window that is asked of all its
@@ -57,11 +58,12 @@ fn first_in(
     area: Option<Area>,
     window: Option<Window>,
 ) -> Result<Option<Crossing>, Refusal> {
+    let most = trail.unit.limits().place;
     let hall = Area {
-        left: -16_000,
-        right: 16_000,
-        bottom: -16_000,
-        top: 16_000,
+        left: -most,
+        right: most,
+        bottom: -most,
+        top: most,
     };
     let always = Window {
         start: trail.first(),
@@ -84,7 +86,7 @@ fn title(name: &OsStr) -> String {
 /// The tolerance whose band is drawn.
 fn band(arguments: &Arguments, trail: &Trail) -> Result<Option<u16>, Failure> {
     let asked: Option<u16> = arguments.number("--tolerance")?;
-    if asked.is_some_and(|e| e > 32_000) {
+    if asked.is_some_and(|e| e > trail.unit.limits().tolerance) {
         return Err(trail.refused(Refusal::HighTolerance));
     }
     Ok(asked.or(trail.mark))
@@ -116,6 +118,10 @@ fn run(arguments: &Arguments) -> Result<Status, Failure> {
     let to = output_of(arguments, &drawn)?;
     let trail = Trail::read(name)?;
     let original = other.map(Trail::read).transpose()?;
+    let differs = |original: &Trail| original.unit != trail.unit;
+    if original.as_ref().is_some_and(differs) {
+        return Err(arguments.wrong("the trail and the original are in different units"));
+    }
     let tolerance = band(arguments, &trail)?;
     let first = first_in(&trail, area, window);
     let first = first.map_err(|refusal| trail.refused(refusal))?;
@@ -123,6 +129,7 @@ fn run(arguments: &Arguments) -> Result<Status, Failure> {
     let picture = Picture {
         start: starts.map(Trail::first).min().unwrap_or(0),
         title: title(name),
+        unit: trail.unit,
         trail: trail.fixes,
         original: original.map(|original| original.fixes),
         tolerance,

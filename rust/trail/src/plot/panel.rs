@@ -1,6 +1,8 @@
 //! A panel of the picture: two axes with a grid, and what is drawn between them.
 
-use trails::{Area, Fix};
+use trails::{Area, Unit};
+
+use crate::trail::Fix;
 
 use super::scale::{Axis, Stretch};
 use super::svg::{Anchor, Spot, Svg};
@@ -41,9 +43,9 @@ impl Panel {
 
     /// The same panel with one scale for both axes: the one that has room to spare shows more.
     pub fn with_one_scale(mut self) -> Panel {
-        let centimetre = self.across.room(1.0).min(self.up.room(1.0));
+        let one = self.across.room(1.0).min(self.up.room(1.0));
         for axis in [&mut self.across, &mut self.up] {
-            let shown = (axis.to - axis.from).abs() / centimetre;
+            let shown = (axis.to - axis.from).abs() / one;
             axis.stretch = axis.stretch.at_least(shown);
         }
         self
@@ -70,16 +72,19 @@ pub const Y: Side = Side {
 };
 
 impl Side {
-    /// What an axis of this side shows: all fixes, the box, and the band unless it is wider than all of that.
+    /// What an axis of this side shows: all fixes, the box, and the band unless it is wider than all of that; and a
+    /// decimetre at least.
     pub fn stretch<'a>(
         &self,
+        unit: Unit,
         fixes: impl Iterator<Item = &'a Fix>,
         area: Option<Area>,
         tolerance: Option<u16>,
     ) -> Stretch {
         let edges = area.iter().map(self.edges);
         let edges = edges.flat_map(|(low, high)| [low, high]);
-        let all = Stretch::of(fixes.map(self.of).chain(edges)).at_least(10.0);
+        let least = 10.0 * f64::from(unit.limits().per_centimetre);
+        let all = Stretch::of(fixes.map(self.of).chain(edges)).at_least(least);
         let band = f64::from(tolerance.unwrap_or(0)).min(all.length());
         all.wider(band + all.length() * 0.05)
     }

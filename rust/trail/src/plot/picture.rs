@@ -1,6 +1,9 @@
 //! The picture of a trail: the plane, and below it x and y against time.
 
-use trails::{Area, Crossing, Fix, Window};
+use trails::{Area, Crossing, Unit, Window};
+
+use crate::trail::Fix;
+use crate::words;
 
 use super::panel::{Panel, Side, X, Y};
 use super::scale::{Axis, Stretch};
@@ -9,6 +12,8 @@ use super::svg::{Anchor, Spot, Svg};
 /// What is drawn.
 pub struct Picture {
     pub title: String,
+    /// the unit of all places, of the tolerance and of the box
+    pub unit: Unit,
     pub trail: Vec<Fix>,
     pub original: Option<Vec<Fix>>,
     pub tolerance: Option<u16>,
@@ -67,8 +72,8 @@ impl Picture {
             None => String::new(),
         };
         let count = self.trail.len();
-        let start = self.start;
-        format!("fixes: {count}{of}; seconds {start} to {last}; places in centimetres")
+        let (start, unit) = (self.start, self.unit);
+        format!("fixes: {count}{of}; seconds {start} to {last}; places in {unit}")
     }
 
     /// What each mark means: its class, and the words for it.
@@ -76,7 +81,7 @@ impl Picture {
         let original = self.original.as_ref().map(|_| "original".into());
         let tolerance = self
             .tolerance
-            .map(|e| format!("within {e} cm of the trail"));
+            .map(|e| format!("within {} of the trail", words::length(e, self.unit)));
         let first = self.first_time();
         [
             ("original", original),
@@ -113,7 +118,7 @@ impl Picture {
     /// When the cart is first in the box, in the picture's seconds.
     fn first_time(&self) -> Option<f64> {
         let first = self.first?;
-        let after = f64::from(first.numerator) / f64::from(first.denominator.max(1));
+        let after = first.numerator as f64 / f64::from(first.denominator.max(1));
         let begin = self.trail.first()?;
         Some(self.time(begin.t) + after)
     }
@@ -139,7 +144,12 @@ impl Picture {
     }
 
     fn stretch(&self, side: &Side) -> Stretch {
-        side.stretch(self.all(), self.area, self.tolerance)
+        side.stretch(self.unit, self.all(), self.area, self.tolerance)
+    }
+
+    /// What an axis of places is named.
+    fn named(&self, side: &Side) -> String {
+        format!("{}, {}", side.name, self.unit.symbol())
     }
 
     fn draw_plane(&self, svg: &mut Svg) {
@@ -165,8 +175,9 @@ impl Picture {
                 svg.circle("first", panel.at(x, y), 5.0);
             }
         });
-        svg.text("words", (RIGHT, PLANE.1 + 34.0), Anchor::End, "x, cm");
-        svg.text("words", (LEFT - 6.0, PLANE.0 - 6.0), Anchor::End, "y, cm");
+        let (across, up) = ((RIGHT, PLANE.1 + 34.0), (LEFT - 6.0, PLANE.0 - 6.0));
+        svg.text("words", across, Anchor::End, &self.named(&X));
+        svg.text("words", up, Anchor::End, &self.named(&Y));
     }
 
     /// The original, the trail over it, and the trail's fixes on top.
@@ -195,8 +206,8 @@ impl Picture {
                 svg.circle("first", panel.at(s, place), 5.0);
             }
         });
-        let name = format!("{}, cm", side.name);
-        svg.text("words", (LEFT - 6.0, rows.0 - 6.0), Anchor::End, &name);
+        let above = (LEFT - 6.0, rows.0 - 6.0);
+        svg.text("words", above, Anchor::End, &self.named(side));
     }
 
     /// Up to the tolerance above and below the trail.

@@ -1,6 +1,6 @@
-//! From seconds and centimetres to places in the picture.
+//! From seconds and lengths to places in the picture.
 
-/// A stretch of an axis, in seconds or centimetres.
+/// A stretch of an axis, in seconds or in the trail's unit.
 #[derive(Clone, Copy, Debug, PartialEq)]
 pub struct Stretch {
     pub low: f64,

@@ -5,7 +5,8 @@ use std::fs::OpenOptions;
 use std::os::unix::ffi::OsStrExt;
 use std::process::Command;
 
-use crate::folder::{record, trail_h, trail_h_at_12, Folder, AGED_H, AGE_H, PROGRAM};
+use crate::folder::{fine_h, fine_h_at_105, fine_record, record, trail_h, trail_h_at_12};
+use crate::folder::{Folder, AGED_H, AGE_H, PROGRAM};
 
 const NEVER: &str = "never thinned: this is the trail as the cart reported it";
 
@@ -17,7 +18,8 @@ fn list_prints_the_fixes() {
     folder.run(&["list", "h"]).says(LISTING);
     folder.run_with(&["list", "-"], &trail_h()).says(LISTING);
     folder.run(&["list", "--json", "h"]).says(
-        "{\"file\":\"h\",\"count\":4,\"mark\":null,\"fixes\":[[0,0,0],[10,20,0],[20,20,0],[30,0,0]]}\n",
+        "{\"file\":\"h\",\"unit\":\"cm\",\"count\":4,\"mark\":null,\
+         \"fixes\":[[0,0,0],[10,20,0],[20,20,0],[30,0,0]]}\n",
     );
 }
 
@@ -46,10 +48,10 @@ fn what_follows_a_record_is_not_read() {
         let line = format!("({PROGRAM} {words} > answer; head -c 1000000 | wc -c) < part");
         folder.put("part", [trail_h(), vec![7; 100_000]].concat());
         let left = folder.run_in_shell(&line, &[]);
-        left.says(&format!("{}\n", 100_042 - 32_778));
+        left.says(&format!("{}\n", 100_042 - 49_162));
     }
     let zeros = folder.run(&["list", "/dev/zero"]);
-    zeros.fails(1, "/dev/zero: refused 2: The kind isn't 1.");
+    zeros.fails(1, "/dev/zero: refused 2: The kind is neither 1 nor 2.");
 }
 
 #[test]
@@ -57,11 +59,12 @@ fn check_tells_of_every_file() {
     let folder = Folder::with_h();
     folder.put("one", record(&[(7, -1, 2)]));
     folder.run(&["check", "h", "one"]).says(
-        "h: fixes 4, seconds 0 to 30, mark never\none: fixes 1, seconds 7 to 7, mark never\n",
+        "h: fixes 4, seconds 0 to 30, places in cm, mark never\n\
+         one: fixes 1, seconds 7 to 7, places in cm, mark never\n",
     );
-    folder
-        .run(&["check", "--json", "one"])
-        .says("{\"file\":\"one\",\"count\":1,\"first\":7,\"last\":7,\"mark\":null}\n");
+    folder.run(&["check", "--json", "one"]).says(
+        "{\"file\":\"one\",\"unit\":\"cm\",\"count\":1,\"first\":7,\"last\":7,\"mark\":null}\n",
+    );
 }
 
 #[test]
@@ -70,13 +73,14 @@ fn place_answers_rounded_and_exactly() {
     // document 01's trail k
     folder.put("k", record(&[(0, 0, 0), (10, 5, -5)]));
     folder.run(&["place", "k", "1.000"]).says(&format!(
-        "place 1 -1\nexact 5000/10000 -5000/10000\n{NEVER}\n"
+        "place 1 -1 cm\nexact 5000/10000 -5000/10000\n{NEVER}\n"
     ));
     folder.run(&["place", "k", "10"]).says(&format!(
-        "place 5 -5\nexact 50000/10000 -50000/10000\n{NEVER}\n"
+        "place 5 -5 cm\nexact 50000/10000 -50000/10000\n{NEVER}\n"
     ));
     folder.run(&["place", "--json", "k", "0.5"]).says(&format!(
-        "{{\"file\":\"k\",\"x\":0,\"y\":0,\"exact\":{{\"x\":2500,\"y\":-2500,\"denominator\":10000}},\
+        "{{\"file\":\"k\",\"unit\":\"cm\",\"x\":0,\"y\":0,\
+         \"exact\":{{\"x\":2500,\"y\":-2500,\"denominator\":10000}},\
          \"mark\":null,\"means\":\"{NEVER}\"}}\n"
     ));
 }
@@ -92,7 +96,8 @@ fn cross_answers_the_earliest_time() {
     };
     let mark = format!("\"mark\":null,\"means\":\"{NEVER}\"");
     ask(["3600", "3610"], &["--json"]).says(&format!(
-        "{{\"file\":\"l\",\"crosses\":true,\"numerator\":330,\"denominator\":100,\"first\":3600,{mark}}}\n",
+        "{{\"file\":\"l\",\"unit\":\"cm\",\"crosses\":true,\"numerator\":330,\"denominator\":100,\
+         \"first\":3600,{mark}}}\n",
     ));
     let says = |window, answer| ask(window, &[]).says(&format!("{answer}; {NEVER}\n"));
     let after = "seconds after the first fix";
@@ -102,8 +107,9 @@ fn cross_answers_the_earliest_time() {
     );
     says(["3604", "3610"], format!("yes, 4/1 {after}, at 3604.000"));
     says(["3605", "3610"], "no".into());
-    ask(["3605", "3610"], &["--json"])
-        .says(&format!("{{\"file\":\"l\",\"crosses\":false,{mark}}}\n"));
+    ask(["3605", "3610"], &["--json"]).says(&format!(
+        "{{\"file\":\"l\",\"unit\":\"cm\",\"crosses\":false,{mark}}}\n"
+    ));
 }
 
 /// The sentence that answers of h aged at 12 end with: for a place, a yes and a no.
@@ -116,10 +122,11 @@ fn answers_of_a_thinned_trail_say_how_sure_they_are() {
     let place = "thinned at 12 cm: at that moment the cart, as it reported, \
         was within 12 cm of the exact place";
     ask("place aged 20").says(&format!(
-        "place 10 0\nexact 200000/20000 0/20000\n{place}\n"
+        "place 10 0 cm\nexact 200000/20000 0/20000\n{place}\n"
     ));
     ask("place aged 20 --json").says(&format!(
-        "{{\"file\":\"aged\",\"x\":10,\"y\":0,\"exact\":{{\"x\":200000,\"y\":0,\"denominator\":20000}},\
+        "{{\"file\":\"aged\",\"unit\":\"cm\",\"x\":10,\"y\":0,\
+         \"exact\":{{\"x\":200000,\"y\":0,\"denominator\":20000}},\
          \"mark\":12,\"means\":\"{place}\"}}\n"
     ));
     let yes =
@@ -129,18 +136,19 @@ fn answers_of_a_thinned_trail_say_how_sure_they_are() {
         "yes, 50/20 seconds after the first fix, at 2.500; {yes}\n"
     ));
     ask("cross aged --box 5 10 -1 1 --window 0 30 --json").says(&format!(
-        "{{\"file\":\"aged\",\"crosses\":true,\"numerator\":50,\"denominator\":20,\"first\":0,\
+        "{{\"file\":\"aged\",\"unit\":\"cm\",\"crosses\":true,\
+         \"numerator\":50,\"denominator\":20,\"first\":0,\
          \"mark\":12,\"means\":\"{yes}\"}}\n"
     ));
     let no = "thinned at 12 cm: if it was in the box then, it was within 12 cm of an edge";
     ask("cross aged --box 18 22 -1 1 --window 15 30").says(&format!("no; {no}\n"));
     ask("cross aged --box 18 22 -1 1 --window 15 30 --json").says(&format!(
-        "{{\"file\":\"aged\",\"crosses\":false,\"mark\":12,\"means\":\"{no}\"}}\n"
+        "{{\"file\":\"aged\",\"unit\":\"cm\",\"crosses\":false,\"mark\":12,\"means\":\"{no}\"}}\n"
     ));
     aged[6] = 0;
     folder.put("aged", aged);
     let same = "thinned at 0 cm: the trail as the cart reported it says the same";
-    ask("place aged 30").says(&format!("place 0 0\nexact 0/20000 0/20000\n{same}\n"));
+    ask("place aged 30").says(&format!("place 0 0 cm\nexact 0/20000 0/20000\n{same}\n"));
     ask("cross aged --box 18 22 -1 1 --window 15 30").says(&format!("no; {same}\n"));
 }
 
@@ -174,7 +182,8 @@ fn age_by_days_takes_the_tables_tolerance() {
         .says("h: kept 4 of 4 fixes, measured 0, mark never, freed 0 bytes\n");
     assert_eq!(folder.get("h"), trail_h());
     folder.run(&["age", "--json", "--days", "7", "h"]).says(
-        "{\"file\":\"h\",\"before\":4,\"count\":2,\"mark\":25,\"measured\":2,\"freed\":16}\n",
+        "{\"file\":\"h\",\"unit\":\"cm\",\"before\":4,\"count\":2,\"mark\":25,\
+         \"measured\":2,\"freed\":16}\n",
     );
 }
 
@@ -200,7 +209,7 @@ fn age_works_between_pipes() {
     let words = ["age", "--tolerance", "12", "-", "-o", "-"];
     let ran = folder.run_with(&words, &trail_h());
     assert_eq!((ran.status, ran.out), (Some(0), trail_h_at_12()));
-    let answer = "standard input: kept 3 of 4 fixes, measured 3, mark 12, freed 8 bytes\n";
+    let answer = "standard input: kept 3 of 4 fixes, measured 3, mark 12 cm, freed 8 bytes\n";
     assert_eq!(ran.err, answer);
 }
 
@@ -216,7 +225,7 @@ fn replay_answers_each_call_and_leaves_the_file() {
          days 1: kept 3, measured 0\n\
          tolerance 32001: refused 10: The asked tolerance is above 32,000.\n\
          days 7: kept 2, measured 1\n\
-         E 25\ntrail 2 25\nfix 0 0 0\nfix 30 0 0\nend\n",
+         E 25 cm\ntrail 2 25\nfix 0 0 0\nfix 30 0 0\nend\n",
     );
     assert_eq!(folder.get("h"), trail_h());
     let nothing = folder.run_with(&["replay", "h", "-"], b"");
@@ -230,7 +239,7 @@ fn replay_answers_programs() {
     folder
         .run_with(&["replay", "--json", "h", "-"], calls)
         .says(
-            "{\"file\":\"h\",\"answers\":[{\"days\":1,\"count\":4,\"measured\":0},\
+            "{\"file\":\"h\",\"unit\":\"cm\",\"answers\":[{\"days\":1,\"count\":4,\"measured\":0},\
          {\"tolerance\":32001,\"refused\":10,\"sentence\":\"The asked tolerance is above 32,000.\"},\
          {\"tolerance\":25,\"count\":2,\"measured\":2}],\"E\":25,\"mark\":25,\
          \"fixes\":[[0,0,0],[30,0,0]]}\n",
@@ -261,13 +270,111 @@ fn every_name_is_a_name() {
             command.arg("check").args(options).arg("--").arg(name);
             folder.finish(&mut command, b"")
         };
-        check(&[]).says(&format!("{people}: fixes 1, seconds 7 to 7, mark never\n"));
+        check(&[]).says(&format!(
+            "{people}: fixes 1, seconds 7 to 7, places in cm, mark never\n"
+        ));
         check(&["--json"]).says(&format!(
-            "{{\"file\":\"{json}\",\"count\":1,\"first\":7,\"last\":7,\"mark\":null}}\n"
+            "{{\"file\":\"{json}\",\"unit\":\"cm\",\"count\":1,\"first\":7,\"last\":7,\"mark\":null}}\n"
         ));
     }
     let ran = folder.run_with(&["check", "--", "-"], &trail_h());
     ran.fails(3, "./-: No such file or directory (os error 2)");
     let ran = folder.run_with(&["check", "--", "--box"], &trail_h());
     ran.fails(3, "--box: No such file or directory (os error 2)");
+}
+
+// ---- millimetres
+
+fn with_fine_h() -> Folder {
+    let folder = Folder::new();
+    folder.put("h", fine_h());
+    folder.put("aged", fine_h_at_105());
+    folder
+}
+
+#[test]
+fn a_trail_in_millimetres_says_so() {
+    let folder = with_fine_h();
+    folder.run(&["check", "h", "aged"]).says(
+        "h: fixes 4, seconds 0 to 30, places in mm, mark never\n\
+         aged: fixes 3, seconds 0 to 30, places in mm, mark 105 mm\n",
+    );
+    folder
+        .run(&["list", "aged"])
+        .says("trail 3 105\nfix 0 0 0\nfix 10 204 0\nfix 30 0 0\nend\n");
+    folder.run(&["list", "--json", "aged"]).says(
+        "{\"file\":\"aged\",\"unit\":\"mm\",\"count\":3,\"mark\":105,\
+         \"fixes\":[[0,0,0],[10,204,0],[30,0,0]]}\n",
+    );
+}
+
+#[test]
+fn a_trail_in_millimetres_is_asked_and_answers_in_them() {
+    let folder = with_fine_h();
+    let ask = |words: &str| folder.run_line(words);
+    let place = "thinned at 105 mm: at that moment the cart, as it reported, \
+        was within 105 mm of the exact place";
+    ask("place aged 5.125").says(&format!(
+        "place 105 0 mm\nexact 1045500/10000 0/10000\n{place}\n"
+    ));
+    ask("place h 10 --json").says(&format!(
+        "{{\"file\":\"h\",\"unit\":\"mm\",\"x\":204,\"y\":0,\
+         \"exact\":{{\"x\":2040000,\"y\":0,\"denominator\":10000}},\"mark\":null,\"means\":\"{NEVER}\"}}\n"
+    ));
+    let no = "thinned at 105 mm: if it was in the box then, it was within 105 mm of an edge";
+    ask("cross aged --box 199 201 -9 9 --window 15 30").says(&format!("no, the box in mm; {no}\n"));
+    ask("cross h --box 51 100 -9 9 --window 0 30").says(&format!(
+        "yes, 510/204 seconds after the first fix, at 2.500, the box in mm; {NEVER}\n"
+    ));
+    ask("cross h --box 51 100 -9 9 --window 0 30 --json").says(&format!(
+        "{{\"file\":\"h\",\"unit\":\"mm\",\"crosses\":true,\"numerator\":510,\"denominator\":204,\
+         \"first\":0,\"mark\":null,\"means\":\"{NEVER}\"}}\n"
+    ));
+}
+
+/// The whole number that a yes has above 2 to the power 32 is told whole, on the trail's clock too.
+#[test]
+fn a_late_crossing_in_millimetres_is_told_whole() {
+    let folder = Folder::new();
+    folder.put("t", fine_record(&[(7, -160_000, 0), (65_542, 160_000, 0)]));
+    let ask = "cross t --box 159999 160000 -5 5 --window 7 65542";
+    folder.run_line(ask).says(&format!(
+        "yes, 20971134465/320000 seconds after the first fix, at 65541.795, the box in mm; {NEVER}\n"
+    ));
+    let json = folder.run_line(&format!("{ask} --json"));
+    assert!(json
+        .text()
+        .contains("\"numerator\":20971134465,\"denominator\":320000,"));
+}
+
+#[test]
+fn a_trail_in_millimetres_is_aged_in_them() {
+    let folder = with_fine_h();
+    folder
+        .run(&["age", "--tolerance", "105", "h", "-o", "new"])
+        .says("h: kept 3 of 4 fixes, measured 3, mark 105 mm, freed 12 bytes\n");
+    assert_eq!(folder.get("new"), fine_h_at_105());
+    // 7 days are 25 centimetres
+    folder.run(&["age", "--days", "7", "h", "--json"]).says(
+        "{\"file\":\"h\",\"unit\":\"mm\",\"before\":4,\"count\":2,\"mark\":250,\
+         \"measured\":2,\"freed\":24}\n",
+    );
+    // a tolerance is in each trail's own unit
+    folder.put("fine", fine_h());
+    folder.put("h", trail_h());
+    let both = folder.run(&["age", "--tolerance", "15", "fine", "h"]);
+    let answers = "fine: kept 4 of 4 fixes, measured 3, mark 15 mm, freed 0 bytes\n\
+        h: kept 3 of 4 fixes, measured 3, mark 15 cm, freed 8 bytes\n";
+    assert_eq!((both.status, both.text()), (Some(0), answers));
+    folder.put("calls", "tolerance 105\ntolerance 60001\ndays 2\n");
+    folder.put("h", fine_h());
+    folder.run(&["replay", "h", "calls"]).says(
+        "tolerance 105: kept 3, measured 3\n\
+         tolerance 60001: refused 10: The asked tolerance is above 60,000.\n\
+         days 2: kept 3, measured 1\n\
+         E 105 mm\ntrail 3 105\nfix 0 0 0\nfix 10 204 0\nfix 30 0 0\nend\n",
+    );
+    let json = folder.run(&["replay", "--json", "h", "calls"]);
+    let start = "{\"file\":\"h\",\"unit\":\"mm\",\"answers\":[{\"tolerance\":105,";
+    assert!(json.text().starts_with(start), "{}", json.text());
 }

@@ -7,7 +7,8 @@ use std::path::{Path, PathBuf};
 use std::process::{Command, Output, Stdio};
 use std::sync::atomic::{AtomicUsize, Ordering};
 
-use trails_tests::plain::{self, Fix, NEVER};
+use trails_tests::plain::kinds::{Kind, CENTIMETRES, MILLIMETRES};
+use trails_tests::plain::{Fix, Trail};
 
 pub const PROGRAM: &str = env!("CARGO_BIN_EXE_trail");
 
@@ -152,15 +153,30 @@ impl Folder {
     }
 }
 
-/// The record of some fixes, marked never thinned.
-pub fn record(fixes: &[(u32, i16, i16)]) -> Vec<u8> {
-    let fixes: Vec<Fix> = fixes.iter().copied().map(Fix::from).collect();
-    plain::record(NEVER, &fixes)
+fn record_of(kind: Kind, fixes: &[(u32, i32, i32)]) -> Vec<u8> {
+    let fixes = fixes.iter().copied().map(Fix::from).collect();
+    Trail::never_thinned(kind, fixes).bytes()
+}
+
+/// The record of some fixes in centimetres, marked never thinned.
+pub fn record(fixes: &[(u32, i32, i32)]) -> Vec<u8> {
+    record_of(CENTIMETRES, fixes)
+}
+
+/// The record of some fixes in millimetres, marked never thinned.
+pub fn fine_record(fixes: &[(u32, i32, i32)]) -> Vec<u8> {
+    record_of(MILLIMETRES, fixes)
+}
+
+/// The same record with this mark.
+fn marked(mut record: Vec<u8>, mark: u16) -> Vec<u8> {
+    record[6..8].copy_from_slice(&mark.to_le_bytes());
+    record
 }
 
 /// An aging of h, and its answer.
 pub const AGE_H: [&str; 4] = ["age", "--tolerance", "12", "h"];
-pub const AGED_H: &str = "h: kept 3 of 4 fixes, measured 3, mark 12, freed 8 bytes\n";
+pub const AGED_H: &str = "h: kept 3 of 4 fixes, measured 3, mark 12 cm, freed 8 bytes\n";
 
 /// Document 01's trail h.
 pub fn trail_h() -> Vec<u8> {
@@ -169,7 +185,15 @@ pub fn trail_h() -> Vec<u8> {
 
 /// Trail h aged at 12, by hand.
 pub fn trail_h_at_12() -> Vec<u8> {
-    let mut aged = record(&[(0, 0, 0), (10, 20, 0), (30, 0, 0)]);
-    aged[6..8].copy_from_slice(&12u16.to_le_bytes());
-    aged
+    marked(record(&[(0, 0, 0), (10, 20, 0), (30, 0, 0)]), 12)
+}
+
+/// Trail h in millimetres, with a corner that centimetres don't have.
+pub fn fine_h() -> Vec<u8> {
+    fine_record(&[(0, 0, 0), (10, 204, 0), (20, 200, 0), (30, 0, 0)])
+}
+
+/// The same aged at 105, by hand: the third fix is 98 from where the chord of its neighbours has the cart.
+pub fn fine_h_at_105() -> Vec<u8> {
+    marked(fine_record(&[(0, 0, 0), (10, 204, 0), (30, 0, 0)]), 105)
 }

@@ -62,7 +62,7 @@ fn a_file_with_several_names_is_told() {
     assert_eq!(folder.get("other"), trail_h());
     folder
         .run(&AGE_H)
-        .says("h: kept 3 of 3 fixes, measured 1, mark 12, freed 0 bytes\n");
+        .says("h: kept 3 of 3 fixes, measured 1, mark 12 cm, freed 0 bytes\n");
 }
 
 /// Outputs that are inputs, or a trail: `"$@"` is the command. `link` and `same` are other names of h.

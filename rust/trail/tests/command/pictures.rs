@@ -1,10 +1,11 @@
 //! `plot`: what a picture has, and what is refused.
 
 use trails_tests::cases::Random;
-use trails_tests::plain::{self, Fix, NEVER};
-use trails_tests::shapes::{curve, trail, Shape};
+use trails_tests::plain::kinds::{CENTIMETRES, KINDS, MILLIMETRES};
+use trails_tests::plain::{Fix, Trail};
+use trails_tests::shapes::{curve, ten_times, trail, Shape};
 
-use crate::folder::{record, trail_h, trail_h_at_12, Folder};
+use crate::folder::{fine_h, record, trail_h, trail_h_at_12, Folder};
 
 fn with_h() -> Folder {
     let folder = Folder::with_h();
@@ -92,8 +93,8 @@ fn small_and_great_trails_are_drawn() {
     );
     assert_eq!(count(&picture, "fix"), 3 + 1);
     assert_eq!(count(&picture, "first"), 3 + 1);
-    let fixes = curve(4_096);
-    folder.put("long", plain::record(NEVER, &fixes));
+    let long = Trail::never_thinned(CENTIMETRES, curve(4_096));
+    folder.put("long", long.bytes());
     assert_eq!(count(&draw(&folder, "long"), "fix"), 3 * 4_096 + 1);
     let picture = draw(&folder, "one --original long");
     assert_eq!(count(&picture, "original"), 3 + 1);
@@ -117,16 +118,20 @@ fn spots(picture: &str) -> Vec<(i64, i64)> {
 fn a_mirrored_trail_is_drawn_mirrored() {
     let folder = Folder::new();
     let mut random = Random::new(1);
-    for shape in [Shape::Smooth, Shape::ZigZag, Shape::Wild] {
-        let fixes = trail(shape, 400, &mut random);
+    let shapes = [Shape::Smooth, Shape::ZigZag, Shape::Wild];
+    for (kind, shape) in KINDS
+        .into_iter()
+        .flat_map(|kind| shapes.map(|shape| (kind, shape)))
+    {
+        let trail = trail(kind, shape, 400, &mut random);
         let mirror = |fix: &Fix| Fix {
             x: -fix.x,
             y: -fix.y,
             ..*fix
         };
-        let images: Vec<Fix> = fixes.iter().map(mirror).collect();
-        folder.put("trail", plain::record(NEVER, &fixes));
-        folder.put("image", plain::record(NEVER, &images));
+        let images = trail.fixes.iter().map(mirror).collect();
+        folder.put("trail", trail.bytes());
+        folder.put("image", Trail::never_thinned(kind, images).bytes());
         let (drawn, image) = (
             spots(&draw(&folder, "trail")),
             spots(&draw(&folder, "image")),
@@ -140,6 +145,55 @@ fn a_mirrored_trail_is_drawn_mirrored() {
             );
         }
     }
+}
+
+/// In millimetres the axes say so, and the same trail is at the same spots.
+#[test]
+fn a_trail_in_millimetres_is_drawn_in_them() {
+    let folder = Folder::new();
+    let mut random = Random::new(2);
+    let trail = trail(CENTIMETRES, Shape::Smooth, 60, &mut random);
+    let finer = Trail::never_thinned(MILLIMETRES, ten_times(&trail.fixes));
+    folder.put("trail", trail.bytes());
+    folder.put("finer", finer.bytes());
+    let box_of = |edge: i32| format!("--box -{edge} {edge} -{edge} {edge}");
+    let one = draw(&folder, &format!("trail {} --tolerance 50", box_of(9_000)));
+    let other = draw(
+        &folder,
+        &format!("finer {} --tolerance 500", box_of(90_000)),
+    );
+    assert_eq!(spots(&one), spots(&other));
+    let in_unit = |picture: &str, unit: &str, words: &[&str]| {
+        for words in words {
+            let words = words.replace("UNIT", unit);
+            assert!(picture.contains(&format!(">{words}</text>")), "{words}");
+        }
+    };
+    in_unit(
+        &one,
+        "cm",
+        &["x, UNIT", "y, UNIT", "within 50 UNIT of the trail"],
+    );
+    in_unit(
+        &other,
+        "mm",
+        &["x, UNIT", "y, UNIT", "within 500 UNIT of the trail"],
+    );
+    assert!(one.contains("; places in centimetres</text>"));
+    assert!(other.contains("; places in millimetres</text>"));
+    assert!(!other.contains(" cm"));
+}
+
+#[test]
+fn trails_in_different_units_are_not_drawn_together() {
+    let folder = with_h();
+    folder.put("fine", fine_h());
+    for words in ["fine --original h", "h --original fine"] {
+        let ran = folder.run_line(&format!("plot {words} -o new"));
+        let what = "the trail and the original are in different units";
+        ran.fails(2, &format!("trail: plot: {what}; try 'trail plot --help'"));
+    }
+    assert_eq!(folder.names(), ["aged", "fine", "h"]);
 }
 
 #[test]
@@ -166,12 +220,15 @@ fn the_standard_input_is_drawn_into_a_file() {
 fn refused_pictures_are_not_stored() {
     let folder = with_h();
     folder.put("text", "no trail");
+    folder.put("fine", fine_h());
     for (words, number, file) in [
         ("text", 1, "text"),
         ("h --original text", 1, "text"),
         ("h --tolerance 32001", 10, "h"),
         ("h --window 0 31", 13, "h"),
         ("h --box 0 16001 0 1", 14, "h"),
+        ("fine --tolerance 60001", 10, "fine"),
+        ("fine --box 0 160001 0 1", 14, "fine"),
     ] {
         let words: Vec<&str> = words.split(' ').collect();
         let ran = folder.run(&[&["plot", "-o", "new"], words.as_slice()].concat());
@@ -179,5 +236,5 @@ fn refused_pictures_are_not_stored() {
         let start = format!("{file}: refused {number}: ");
         assert!(ran.err.starts_with(&start), "{}", ran.err);
     }
-    assert_eq!(folder.names(), ["aged", "h", "text"]);
+    assert_eq!(folder.names(), ["aged", "fine", "h", "text"]);
 }

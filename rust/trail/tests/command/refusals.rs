@@ -1,14 +1,15 @@
 //! Records and questions that document 01 turns away.
 
-use trails_tests::cases::{Draft, Random};
+use trails_tests::cases::{kind_of, Draft, Random};
 use trails_tests::plain;
+use trails_tests::plain::kinds::{Kind, CENTIMETRES, KINDS, MILLIMETRES};
 
-use crate::folder::{trail_h, Folder, Ran};
+use crate::folder::{fine_h, trail_h, Folder, Ran};
 
 /// The sentences of document 01, by hand.
 const SENTENCES: [&str; 14] = [
     "The lent bytes are fewer than 10.",
-    "The kind isn't 1.",
+    "The kind is neither 1 nor 2.",
     "The count is 0 or above 4,096.",
     "The length field isn't 10 + 8 times the count.",
     "The lent bytes are fewer than the length field.",
@@ -23,8 +24,29 @@ const SENTENCES: [&str; 14] = [
     "A box edge is outside −16,000 to 16,000, or a low edge is above its high edge.",
 ];
 
+/// Those that have other numbers in millimetres.
+const IN_MILLIMETRES: [(usize, &str); 5] = [
+    (4, "The length field isn't 10 + 12 times the count."),
+    (6, "The mark is above 60,000 and isn't 65,535."),
+    (7, "Some x or y is outside −160,000 to 160,000."),
+    (10, "The asked tolerance is above 60,000."),
+    (
+        14,
+        "A box edge is outside −160,000 to 160,000, or a low edge is above its high edge.",
+    ),
+];
+
 fn refused(number: usize) -> String {
-    format!("refused {number}: {}", SENTENCES[number - 1])
+    refused_in(CENTIMETRES, number)
+}
+
+fn refused_in(kind: Kind, number: usize) -> String {
+    let others = IN_MILLIMETRES.iter().filter(|_| kind == MILLIMETRES);
+    let mut other = others.filter(|(of, _)| *of == number);
+    let sentence = other
+        .next()
+        .map_or(SENTENCES[number - 1], |(_, other)| other);
+    format!("refused {number}: {sentence}")
 }
 
 /// What follows a refusal's sentence: the count, where it is about that.
@@ -57,13 +79,17 @@ fn every_fault_of_a_record_is_named_by_every_command() {
     let cross: Vec<&str> = cross.split(' ').collect();
     let mut random = Random::new(3);
     for fault in 1..=9u8 {
-        for n in [2, 40] {
-            let mut draft = Draft::accepted(&mut random, n);
+        for (n, kind) in [2, 40]
+            .into_iter()
+            .flat_map(|n| KINDS.map(|kind| (n, kind)))
+        {
+            let mut draft = Draft::accepted(kind, &mut random, n);
             draft.spoil(fault, &mut random);
             let bytes = draft.bytes();
             assert_eq!(plain::read(&bytes).err(), Some(fault));
             folder.put("t", &bytes);
-            let message = format!("t: {}{}", refused(fault.into()), count_told(fault, &bytes));
+            let sentence = refused_in(kind, fault.into());
+            let message = format!("t: {sentence}{}", count_told(fault, &bytes));
             for words in READERS.iter().chain([&cross.as_slice()]) {
                 folder.run(words).fails(1, &message);
                 assert!(folder.get("t") == bytes, "{words:?}");
@@ -124,6 +150,24 @@ fn tolerances_above_32000_are_refused() {
     of_h("age --tolerance 65535 h -o new").fails(1, &message);
 }
 
+/// What centimetres turn away, millimetres may take.
+#[test]
+fn a_trail_in_millimetres_has_its_own_limits() {
+    let folder = Folder::new();
+    folder.put("h", fine_h());
+    let message = format!("h: {}", refused_in(MILLIMETRES, 10));
+    folder
+        .run_line("age --tolerance 60001 h")
+        .fails(1, &message);
+    let edges = format!("h: {}", refused_in(MILLIMETRES, 14));
+    let cross = |edge: i32| folder.run_line(&format!("cross h --box {edge} 0 0 1 --window 0 30"));
+    cross(-160_001).fails(1, &edges);
+    assert_eq!(cross(-160_000).status, Some(0));
+    assert_eq!(folder.get("h"), fine_h());
+    let aged = folder.run_line("age --tolerance 60000 h");
+    assert_eq!(aged.status, Some(0), "{}", aged.err);
+}
+
 #[test]
 fn moments_outside_the_trail_are_refused() {
     let message = format!("h: {} {SECONDS}", refused(12));
@@ -150,7 +194,8 @@ fn check_goes_on_past_a_refused_file() {
     folder.put("b", "");
     let ran = folder.run(&["check", "b", "a"]);
     assert_eq!(ran.status, Some(1));
-    assert_eq!(ran.text(), "a: fixes 4, seconds 0 to 30, mark never\n");
+    let checked = "a: fixes 4, seconds 0 to 30, places in cm, mark never\n";
+    assert_eq!(ran.text(), checked);
     assert_eq!(ran.err, format!("b: {}\n", refused(1)));
 }
 
@@ -162,19 +207,16 @@ fn noise_is_answered_like_the_plain_version() {
     let mut random = Random::new(5);
     for n in [0, 1, 9, 10, 11, 18, 100, 40_000] {
         let mut bytes = random.bytes(n);
-        // half of them get past check 2
+        // half of them get past check 2, by turns as each kind
         if n % 2 == 0 && n > 6 {
-            bytes[4] = 1;
+            bytes[4] = 1 + u8::from(n % 4 == 0);
             bytes[5] = 0;
         }
         folder.put("t", &bytes);
         let number = plain::read(&bytes).expect_err("noise is no trail");
+        let sentence = refused_in(kind_of(&bytes, CENTIMETRES), number.into());
         for words in READERS {
-            let message = format!(
-                "t: {}{}",
-                refused(number.into()),
-                count_told(number, &bytes)
-            );
+            let message = format!("t: {sentence}{}", count_told(number, &bytes));
             folder.run(words).fails(1, &message);
             assert!(folder.get("t") == bytes, "{words:?}");
         }

@@ -6,7 +6,8 @@ use std::os::unix::process::CommandExt;
 use std::process::{Command, Stdio};
 use std::time::Duration;
 
-use trails_tests::plain::{self, NEVER};
+use trails_tests::plain::kinds::CENTIMETRES;
+use trails_tests::plain::Trail;
 use trails_tests::shapes::dearest;
 
 use crate::folder::{trail_h, trail_h_at_12, Folder, Ran, AGED_H, AGE_H, PROGRAM};
@@ -165,7 +166,7 @@ fn work_goes_on_past_a_refused_file_and_is_summed_up() {
     assert_eq!(ran.status, Some(1));
     assert_eq!(
         ran.text(),
-        "a: kept 3 of 4 fixes, measured 3, mark 12, freed 8 bytes\nc: kept 3 of 4 fixes, measured 3, mark 12, freed 8 bytes\n"
+        "a: kept 3 of 4 fixes, measured 3, mark 12 cm, freed 8 bytes\nc: kept 3 of 4 fixes, measured 3, mark 12 cm, freed 8 bytes\n"
     );
     assert_eq!(
         ran.err,
@@ -176,7 +177,7 @@ fn work_goes_on_past_a_refused_file_and_is_summed_up() {
     assert_eq!(ran.status, Some(3));
     assert_eq!(
         ran.text(),
-        "{\"file\":\"a\",\"before\":3,\"count\":2,\"mark\":400,\"measured\":1,\"freed\":8}\n\
+        "{\"file\":\"a\",\"unit\":\"cm\",\"before\":3,\"count\":2,\"mark\":400,\"measured\":1,\"freed\":8}\n\
          {\"file\":\"missing\",\"failed\":\"No such file or directory (os error 2)\"}\n\
          {\"file\":\"b\",\"refused\":1,\"sentence\":\"The lent bytes are fewer than 10.\"}\n"
     );
@@ -217,9 +218,9 @@ fn people_at_a_terminal_see_how_far_the_work_is() {
 #[test]
 fn the_deepest_trail_is_aged_under_a_small_stack_limit() {
     let folder = Folder::new();
-    let fixes = dearest(4_096);
-    folder.put("t", plain::record(NEVER, &fixes));
+    let dearest = Trail::never_thinned(CENTIMETRES, dearest(4_096));
+    folder.put("t", dearest.bytes());
     let words = ["age", "--tolerance", "1", "t"];
     let ran = folder.run_in_shell("ulimit -s 256; exec \"$@\"", &words);
-    ran.says("t: kept 4096 of 4096 fixes, measured 8382465, mark 1, freed 0 bytes\n");
+    ran.says("t: kept 4096 of 4096 fixes, measured 8382465, mark 1 cm, freed 0 bytes\n");
 }

@@ -1,6 +1,6 @@
 //! `write`, and the texts that it and `replay` read.
 
-use crate::folder::{record, trail_h, Folder};
+use crate::folder::{fine_record, record, trail_h, Folder};
 
 #[test]
 fn spaces_commas_comments_and_line_ends_are_taken() {
@@ -23,8 +23,48 @@ fn write_answers_programs() {
     let words = ["write", "--json", "-", "-o", "one"];
     folder
         .run_with(&words, b"7 -1 2")
-        .says("{\"file\":\"one\",\"count\":1,\"bytes\":18}\n");
+        .says("{\"file\":\"one\",\"unit\":\"cm\",\"count\":1,\"bytes\":18}\n");
     assert_eq!(folder.get("one"), record(&[(7, -1, 2)]));
+}
+
+#[test]
+fn millimetres_are_written() {
+    let folder = Folder::new();
+    let words = ["write", "--millimetres", "--json", "-", "-o", "one"];
+    folder
+        .run_with(
+            &words,
+            b"7 -160000 32768
+9 160000 -1",
+        )
+        .says("{\"file\":\"one\",\"unit\":\"mm\",\"count\":2,\"bytes\":34}\n");
+    let fixes = [(7, -160_000, 32_768), (9, 160_000, -1)];
+    assert_eq!(folder.get("one"), fine_record(&fixes));
+    // the same text isn't one in centimetres, and both ends of what millimetres can be
+    let places = |word, range| format!("x: '{word}' isn't a whole number from {range}");
+    for (option, text, message) in [
+        (
+            "--json",
+            "7 -160000 5",
+            places("-160000", "-16,000 to 16,000"),
+        ),
+        (
+            "--millimetres",
+            "7 2147483648 5",
+            places("2147483648", "-160,000 to 160,000"),
+        ),
+    ] {
+        let ran = folder.run_with(&["write", option, "-", "-o", "two"], text.as_bytes());
+        assert_eq!(ran.status, Some(2));
+        assert_eq!(ran.err, format!("standard input, line 1: {message}\n"));
+    }
+    let ran = folder.run_with(
+        &["write", "--millimetres", "-", "-o", "two"],
+        b"1 0 0\n2 0 160001",
+    );
+    let misplaced = "refused 7: Some x or y is outside −160,000 to 160,000.";
+    ran.fails(1, &format!("standard input, line 2: {misplaced}"));
+    assert_eq!(folder.names(), ["one"]);
 }
 
 #[test]
@@ -102,9 +142,16 @@ fn a_refused_list_is_not_stored_and_its_line_is_named() {
 fn the_longest_list_is_stored() {
     let folder = Folder::new();
     let many: String = (0..4_096).map(|t| format!("{t},{t},-{t}\n")).collect();
-    let words = ["write", "-", "-o", "t"];
-    folder.run_with(&words, many.as_bytes()).says("");
-    assert_eq!(folder.get("t").len(), 32_778);
+    for (words, bytes) in [
+        (&["write", "-", "-o", "t"][..], 32_778),
+        (&["write", "--millimetres", "-", "-o", "t"], 49_162),
+    ] {
+        folder.run_with(words, many.as_bytes()).says("");
+        assert_eq!(folder.get("t").len(), bytes);
+        let listing = folder.run(&["list", "t"]);
+        let end = "fix 4095 4095 -4095\nend\n";
+        assert!(listing.text().ends_with(end), "{words:?}");
+    }
 }
 
 #[test]

@@ -31,7 +31,7 @@ fn help_is_printed_for_the_command_and_each_of_its_commands() {
 }
 
 /// Words that no command takes. There is a trail `h`.
-const WRONG: [&str; 40] = [
+const WRONG: [&str; 42] = [
     "",
     "lists h",
     "list",
@@ -44,6 +44,8 @@ const WRONG: [&str; 40] = [
     "write -o t",
     "write h -o",
     "write --json h -o -",
+    "write --millimetres=1 h -o t",
+    "age --millimetres --days 3 h",
     "age h",
     "age --tolerance 5",
     "age --tolerance h",
@@ -208,7 +210,8 @@ const WRONG_VALUES: [(&str, &str); 17] = [
     ("cross h --window 0 1", "--box X0 X1 Y0 Y1 is missing"),
     (
         "cross h --box 0 1 -99999999999 1 --window 0 1",
-        "--box, Y0: '-99999999999' isn't a whole number from -16,000 to 16,000",
+        "--box, Y0: '-99999999999' isn't a whole number from -16,000 to 16,000 \
+         (in millimetres -160,000 to 160,000)",
     ),
     (
         "cross h --box 0 1 0 1 --window 0 -1",
@@ -216,7 +219,7 @@ const WRONG_VALUES: [(&str, &str); 17] = [
     ),
     (
         "age --tolerance 65536 h",
-        "--tolerance, E: '65536' isn't a whole number from 0 to 32,000",
+        "--tolerance, E: '65536' isn't a whole number from 0 to 32,000 (in millimetres 60,000)",
     ),
     (
         "age --days=x h",
@@ -276,9 +279,10 @@ fn words_that_are_not_utf8_are_no_crash() {
 }
 
 /// Words that may follow each other in any way.
-const WORDS: [&str; 27] = [
+const WORDS: [&str; 28] = [
     "--json",
     "--force",
+    "--millimetres",
     "--days=3",
     "--box=0,1,0,1",
     "--tolerance",

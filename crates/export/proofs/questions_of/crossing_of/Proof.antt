@@ -8,9 +8,6 @@ use Rattle.export.proofs.questions_of.crossing_of.Tie as tie
 enum-known-c : tie.Need-enum-known-c
 enum-known-c c = search needs
 
-cast-t5 : tie.Need-cast-t5
-cast-t5 c = search needs
-
 enum-told : tie.Need-enum-told
 enum-told c = search needs
 
@@ -21,7 +18,7 @@ wide-requires : tie.Need-wide-requires
 wide-requires c κs = search needs
 
 returns : tie.Need-returns
-returns c = ap crossing-numbers (sym (ap crossed (c .before .before .c .given .1)))
+returns c = ap crossing-numbers (sym (ap crossed (c .before .c .given .1)))
 
 returns-2 : tie.Need-returns-2
 returns-2 c = ap crossing-numbers (sym (ap crossed (c .enum-told .given .1)))
@@ -34,7 +31,6 @@ crossing-of-spec =
     tie.close
     (tie.spec
     enum-known-c
-    cast-t5
     enum-told
     enum-known-c-2
     wide-requires

@@ -3,7 +3,6 @@ use mir.Facts.{toZ-ofZ}
 use denote.Ref.{now}
 use mathlib.Core.Path.{_∙_, ap}
 use Rattle.export.specs.Interface.{crossing-numbers}
-use Rattle.format.specs.Format.{trail}
 use Rattle.crossing.specs.Crossing.{cross-answer}
 use Rattle.crossing.specs.Laws.Checking.{cross-means}
 use Rattle.export.specs.Laws.{same-asked, same-box}
@@ -30,7 +29,7 @@ returns c =
     let e = c .before .before .edges .ensures
     ∙ same-box (toZ-ofZ {w = w32} {z = a .left} (search needs)) (toZ-ofZ {w = w32} {z = a .right} (search needs)) (toZ-ofZ {w = w32} {z = a .bottom} (search needs)) (toZ-ofZ {w = w32} {z = a .top} (search needs)) in
     let b = now (a .b) in
-    (c .crossing-of .ensures ∙ ap crossing-numbers (c .before .crosses .ensures .0 ∙ same-asked (cross-answer trail b) (w .0) (w .1) e), cross-means b _ _ _)
+    (c .crossing-of .ensures ∙ ap crossing-numbers (c .before .crosses .ensures .0 ∙ same-asked (cross-answer b) (w .0) (w .1) e), cross-means b _ _ _)
 
 pub trails-crosses-spec : {M : Type 1} → statement M
 trails-crosses-spec =

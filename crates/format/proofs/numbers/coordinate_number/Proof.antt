@@ -1,11 +1,12 @@
+use native.Mathlib.Omega.{arith}
 use borrow.Author.Needs.{needs}
 use mir.Facts.{toZ-ofZ}
 use Rattle.format.specs.Laws.Numbers.{NumberFits, number-fits, number-negative, number-positive}
 use Rattle.format.proofs.numbers.coordinate_number.Statement.{statement}
 use Rattle.format.proofs.numbers.coordinate_number.Tie as tie
 
-ranges : (s : tie.Start) → NumberFits (s .args .c .0)
-ranges s = number-fits (search needs)
+ranges : (s : tie.Start) → NumberFits 2 (s .args .c .0)
+ranges s = number-fits 2 (omega arith) (search needs)
 
 cast-z : tie.Need-cast-z
 cast-z c = let k = ranges (c .before .before) in search needs
@@ -14,16 +15,16 @@ add-result : tie.Need-add-result
 add-result c = let k = ranges (c .before .before .before) in search needs
 
 cast-result : tie.Need-cast-result
-cast-result c = let k = ranges (c .before .before .before) in let n = number-negative (c .before .before .before .args .c .0) (k .z16) (simp (toZ-ofZ, k .z16, k .z32) at (c .if1 .taken)) in search needs
+cast-result c = let k = ranges (c .before .before .before) in let n = number-negative 2 (c .before .before .before .args .c .0) (omega arith) (omega arith) (c .before .before .before .pre) (simp (toZ-ofZ, k .z32, k .z64) at (c .if1 .taken)) in search needs
 
 returns : tie.Need-returns
-returns c = let k = ranges (c .before .before .before) in let n = number-negative (c .before .before .before .args .c .0) (k .z16) (simp (toZ-ofZ, k .z16, k .z32) at (c .if1 .taken)) in simp (toZ-ofZ, k .z16, k .z32, k .sum32) (n .is)
+returns c = let k = ranges (c .before .before .before) in let n = number-negative 2 (c .before .before .before .args .c .0) (omega arith) (omega arith) (c .before .before .before .pre) (simp (toZ-ofZ, k .z32, k .z64) at (c .if1 .taken)) in simp (toZ-ofZ, k .z32, k .z64, k .sum64) (n .is)
 
 cast-result-2 : tie.Need-cast-result-2
-cast-result-2 c = let k = ranges (c .before .before .before) in let n = number-positive (c .before .before .before .args .c .0) (k .z16) (simp (toZ-ofZ, k .z16, k .z32) at (c .if1 .left)) in search needs
+cast-result-2 c = let k = ranges (c .before .before .before) in let n = number-positive 2 (c .before .before .before .args .c .0) (omega arith) (c .before .before .before .pre) (simp (toZ-ofZ, k .z32, k .z64) at (c .if1 .left)) in search needs
 
 returns-2 : tie.Need-returns-2
-returns-2 c = let k = ranges (c .before .before .before) in let n = number-positive (c .before .before .before .args .c .0) (k .z16) (simp (toZ-ofZ, k .z16, k .z32) at (c .if1 .left)) in simp (toZ-ofZ, k .z16, k .z32) (n .is)
+returns-2 c = let k = ranges (c .before .before .before) in let n = number-positive 2 (c .before .before .before .args .c .0) (omega arith) (c .before .before .before .pre) (simp (toZ-ofZ, k .z32, k .z64) at (c .if1 .left)) in simp (toZ-ofZ, k .z32, k .z64) (n .is)
 
 pub coordinate-number-spec : {M : Type 1} → statement M
 coordinate-number-spec =

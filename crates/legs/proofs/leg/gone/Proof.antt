@@ -1,10 +1,10 @@
-use Rattle.legs.specs.Laws.Ranges.{Fits32, fits-32}
+use Rattle.legs.specs.Laws.Ranges.{GoneFits, gone-fits}
 use borrow.Author.Needs.{needs}
 use Rattle.legs.proofs.leg.gone.Statement.{statement}
 use Rattle.legs.proofs.leg.gone.Tie as tie
 
-ranges : (s : tie.Start) → Fits32 (s .args .start .0) (s .args .takes .0) (s .args .v .0) (s .args .n .0)
-ranges s = fits-32 (s .pre) (search needs) (search needs)
+ranges : (s : tie.Start) → GoneFits (s .args .start .0) (s .args .takes .0) (s .args .v .0) (s .args .n .0)
+ranges s = gone-fits (search needs) (search needs) (search needs) (search needs)
 
 cast-result : tie.Need-cast-result
 cast-result c = search needs

@@ -7,14 +7,14 @@ use Rattle.legs.proofs.leg.raise.Tie as tie
 since-requires : tie.Need-since-requires
 since-requires c κs = search needs
 
-place-offset-requires : tie.Need-place-offset-requires
-place-offset-requires c κs = search needs
+offset-of-requires : tie.Need-offset-of-requires
+offset-of-requires c κs = search needs
 
-place-offset-requires-2 : tie.Need-place-offset-requires-2
-place-offset-requires-2 c κs = search needs
+offset-of-requires-2 : tie.Need-offset-of-requires-2
+offset-of-requires-2 c κs = search needs
 
 returns : tie.Need-returns
-returns c = raised-parts _ _ _ _ _ _ (sub-of-pos (c .before .before .before .pre .from) (c .before .before .since .ensures)) (c .before .place-offset .ensures) (c .place-offset2 .ensures)
+returns c = raised-parts _ _ _ _ _ _ (sub-of-pos (c .before .before .before .pre .from) (c .before .before .since .ensures)) (c .before .offset-of .ensures) (c .offset-of2 .ensures)
 
 pub raise-spec : {M : Type 1} → statement M
-raise-spec = tie.close (tie.spec since-requires place-offset-requires place-offset-requires-2 returns)
+raise-spec = tie.close (tie.spec since-requires offset-of-requires offset-of-requires-2 returns)

@@ -1,26 +1,30 @@
-use Prim.Native.Nat.{_-_, _≤_}
+use Prim.Native.Nat.{suc, _-_, _≤_}
 use mathlib.Core.Path.{_≡_}
 use native.Mathlib.Omega.{arith}
 use denote.Ref.{now}
 use borrow.Author.Needs.{needs}
 use Rattle.distance.specs.Fix.{Fix}
-use Rattle.format.specs.Format.{trail, fix-at, each}
+use Rattle.format.specs.Kinds.{layout}
+use Rattle.format.specs.Format.{fix-at, each}
+use Rattle.format.specs.Laws.Kinds.{longer}
 use Rattle.record.specs.Reading.{filled, times-of, xs-of, ys-of}
 use Rattle.record.specs.Laws.Columns.{puts-none, puts-more, keeps-length}
 use Rattle.record.proofs.all.fill.Statement.{statement}
 use Rattle.record.proofs.all.fill.Tie as tie
 
 abbrev Inv-loop : tie.InvT-loop
-Inv-loop b n ts₀ xs₀ ys₀ k₀ ts xs ys k = (k ≤ n) × (ts ≡ filled ts₀ (times-of (each (fix-at trail b) 0 k))) × (xs ≡ filled xs₀ (xs-of (each (fix-at trail b) 0 k))) × (ys ≡ filled ys₀ (ys-of (each (fix-at trail b) 0 k)))
+Inv-loop b kind n ts₀ xs₀ ys₀ k₀ ts xs ys k = (k ≤ n) × (ts ≡ filled ts₀ (times-of (each (fix-at (layout kind) b) 0 k))) × (xs ≡ filled xs₀ (xs-of (each (fix-at (layout kind) b) 0 k))) × (ys ≡ filled ys₀ (ys-of (each (fix-at (layout kind) b) 0 k)))
 
 abbrev μ-loop : tie.MeasureT-loop
-μ-loop b n ts₀ xs₀ ys₀ k₀ ts xs ys k = n - k
+μ-loop b kind n ts₀ xs₀ ys₀ k₀ ts xs ys k = n - k
 
 loop-holds : tie.Need-loop-holds Inv-loop μ-loop
 loop-holds c = (omega arith, puts-none _ _ _, puts-none _ _ _, puts-none _ _ _)
 
 fix-at-requires : tie.Need-fix-at-requires Inv-loop μ-loop
-fix-at-requires c κs = search needs
+fix-at-requires c κs =
+    let s = c .before .before .before .before in
+    omega (arith, longer (layout (s .args .kind)) (suc (c .before .loop .k)) (s .args .n) (omega arith))
 
 put-time-requires : tie.Need-put-time-requires Inv-loop μ-loop
 put-time-requires c κs = search needs
@@ -42,7 +46,7 @@ loop-again c =
     let at = c .before .before .before .before .before .before .before .before .before .before .before .before .loop in
     let i = at .inv in
     let s = c .before .before .before .before .before .before .before .before .before .before .before .before .before .before .before in
-    let f = fix-at trail (now (s .args .b)) in
+    let f = fix-at (layout (s .args .kind)) (now (s .args .b)) in
     let e = c .before .before .before .before .before .before .before .before .before .before .fix-at .ensures in (
       omega arith,
       puts-more (λ (a : Fix). a .t) f (now (s .args .ts)) (at .ts) _ _ (at .k) e (i .1) (c .before .before .before .before .before .before .before .before .put-time .ensures),

@@ -2,7 +2,6 @@ use mathlib.Core.Path.{_≡_, sym, _∙_, ap}
 use mathlib.Core.Option.{none}
 use native.Mathlib.Omega.{arith}
 use denote.Ref.{now}
-use Rattle.format.specs.Format.{trail}
 use Rattle.record.specs.Checks.{read-refusal}
 use Rattle.record.specs.Answers.{refused}
 use Rattle.record.specs.Laws.Head.{accepted-head}
@@ -21,20 +20,23 @@ enum-told : tie.Need-enum-told
 enum-told c = search needs
 
 -- in the second arm the record is accepted
-accepted : (c : tie.After-enum-told) → read-refusal trail (now (c .before .before .before .before .before .args .b)) ≡ none
+accepted : (c : tie.After-enum-told) → read-refusal (now (c .before .before .before .before .before .args .b)) ≡ none
 accepted c = sym (c .before .before .check .ensures) ∙ ap refused (c .enum-told .given .1)
 
 count-at-requires : tie.Need-count-at-requires
 count-at-requires c κs = accepted-head (now (c .before .before .before .before .before .args .b)) (accepted c) .ten
 
+kind-at-requires : tie.Need-kind-at-requires
+kind-at-requires c κs = accepted-head (now (c .before .before .before .before .before .before .args .b)) (accepted (c .before)) .ten
+
 fill-requires : tie.Need-fill-requires
 fill-requires c κs =
-    let h = accepted-head (now (c .before .before .before .before .before .before .before .before .before .args .b)) (accepted (c .before .before .before .before)) in
-    let e = c .before .before .before .count-at .ensures .0 in
-    (omega (arith, h .few-fixes), omega (arith, h .whole))
+    let h = accepted-head (now (c .before .before .before .before .before .before .before .before .before .before .args .b)) (accepted (c .before .before .before .before .before)) in
+    let e = c .before .before .before .before .count-at .ensures .0 in
+    (omega (arith, h .few-fixes), rw (c .before .before .before .kind-at .ensures, e) (h .whole))
 
-cast-t16 : tie.Need-cast-t16
-cast-t16 c = search needs
+cast-t17 : tie.Need-cast-t17
+cast-t17 c = search needs
 
 returns : tie.Need-returns
 returns c = leaves (now (c .before .before .before .before .before .before .args .b)) _ _ _ _ (sym (c .before .before .before .check .ensures) ∙ ap refused (c .before .v .given .1))
@@ -51,8 +53,9 @@ same-length-3 c = search needs
 returns-2 : tie.Need-returns-2
 returns-2 c =
     let e = c .before .before .before .before .fill .ensures in
-    let n = c .before .before .before .before .before .before .before .before .count-at .ensures .0 in
-    fills (now (c .before .before .before .before .before .before .before .before .before .before .before .before .before .before .args .b)) _ _ _ (accepted (c .before .before .before .before .before .before .before .before .before)) n (e .0) (e .1) (e .2)
+    let k = c .before .before .before .before .before .before .before .before .kind-at .ensures in
+    let n = c .before .before .before .before .before .before .before .before .before .count-at .ensures .0 in
+    fills (now (c .before .before .before .before .before .before .before .before .before .before .before .before .before .before .before .args .b)) _ _ _ (accepted (c .before .before .before .before .before .before .before .before .before .before)) n (rw k at (e .0)) (rw k at (e .1)) (rw k at (e .2))
 
 pub read-all-spec : {M : Type 1} → statement M
 read-all-spec =
@@ -62,8 +65,9 @@ read-all-spec =
     enum-known-v
     enum-told
     count-at-requires
+    kind-at-requires
     fill-requires
-    cast-t16
+    cast-t17
     returns
     same-length
     same-length-2

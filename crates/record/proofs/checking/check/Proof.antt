@@ -2,7 +2,7 @@ use mathlib.Core.Path.{_≡_, sym, _∙_, ap}
 use mathlib.Core.Option.{none}
 use native.Mathlib.Omega.{arith}
 use denote.Ref.{now}
-use Rattle.format.specs.Format.{trail, count-field, fix-at}
+use Rattle.format.specs.Format.{kind-of, count-field, fix-at}
 use Rattle.record.specs.Checks.{first, head-checks, fix-checks, asked-of, nothing}
 use Rattle.record.specs.Answers.{refused}
 use Rattle.format.specs.Laws.Each.{each-first}
@@ -25,14 +25,17 @@ enum-told c = search needs
 head-none : (c : tie.After-enum-told) → first (says (now (c .before .before .before .before .args .b))) head-checks ≡ none
 head-none c = sym (c .before .before .head-says .ensures) ∙ ap refused (c .enum-told .given .1)
 
+kind-at-requires : tie.Need-kind-at-requires
+kind-at-requires c κs = head-passed (now (c .before .before .before .before .args .b)) (head-none c) .ten
+
 count-at-requires : tie.Need-count-at-requires
-count-at-requires c κs = head-passed (now (c .before .before .before .before .args .b)) (head-none c) .ten
+count-at-requires c κs = head-passed (now (c .before .before .before .before .before .args .b)) (head-none (c .before)) .ten
 
 scan-all-requires : tie.Need-scan-all-requires
 scan-all-requires c κs =
-    let h = head-passed (now (c .before .before .before .before .before .args .b)) (head-none (c .before)) in
+    let h = head-passed (now (c .before .before .before .before .before .before .args .b)) (head-none (c .before .before)) in
     let e = c .count-at .ensures .0 in
-    (omega (arith, h .some-fix), omega (arith, h .few-fixes), omega (arith, h .whole))
+    (omega (arith, h .some-fix), omega (arith, h .few-fixes), rw (c .before .kind-at .ensures, e) (h .whole))
 
 scan-says-requires : tie.Need-scan-says-requires
 scan-says-requires c κs = search needs
@@ -44,10 +47,11 @@ returns c =
 
 returns-2 : tie.Need-returns-2
 returns-2 c =
-    let b = now (c .before .before .before .before .before .before .before .args .b) in
-    let none = head-none (c .before .before .before) in
+    let b = now (c .before .before .before .before .before .before .before .before .args .b) in
+    let none = head-none (c .before .before .before .before) in
     let n = c .before .before .count-at .ensures .0 in
-    c .scan-says .ensures (asked-of trail b nothing) _ _ (each-first (fix-at trail b) 0 (count-field b) (head-passed b none .some-fix)) (rw n at (c .before .scan-all .ensures))
+    let k = c .before .before .before .kind-at .ensures in
+    c .scan-says .ensures (kind-of b) (asked-of b nothing) _ _ (each-first (fix-at (kind-of b) b) 0 (count-field b) (head-passed b none .some-fix)) (rw (n, k) at (c .before .scan-all .ensures))
     ∙ sym (none-first (says b) head-checks fix-checks none)
 
 pub check-spec : {M : Type 1} → statement M
@@ -57,6 +61,7 @@ check-spec =
     head-says-requires
     enum-known-h
     enum-told
+    kind-at-requires
     count-at-requires
     scan-all-requires
     scan-says-requires

@@ -48,7 +48,6 @@ use denote.Triple.Spec.{Meets, tripleOf}
 use denote.Triple.Table.{entered, cited}
 use denote.Triple.Walked.{says, Stays, stay-ref, walkOf, goes-ref, Walks, ends-at, walked, walk-meets}
 use denote.Triple.Clauses.{ensured, lasts}
-use Rattle.format.specs.Format.{trail}
 use Rattle.record.specs.Reading.{yields, moves}
 use Rattle.record.specs.Answers.{found}
 use Rattle.record.specs.declared.reading.Reader.{Reader}
@@ -111,10 +110,10 @@ module _ {M : Type 1} (𝓤 : URA M) (H : Heap 𝓤) (A : Atoms 𝓤) (W : Given
   v = sliceVal (h .bytes .ptr) (length (h .bytes .now))
 
   abbrev moved-to : ℕ
-  moved-to = moves trail (now (h .bytes)) (h .at)
+  moved-to = moves (now (h .bytes)) (h .at)
 
   abbrev Yielded : Step → Type 0
-  Yielded s = found s ≡ yields trail (now (h .bytes)) (h .at)
+  Yielded s = found s ≡ yields (now (h .bytes)) (h .at)
 
   abbrev Post : Val → SProp 𝓤
   Post = walkOf 𝓤 H A next.ended stayed (next.clauses 𝓤 H A at-mem run) .post (((κ, (κ′, tt)), (q, (q′, tt)), bounds, x, at), tt)

@@ -37,7 +37,6 @@ use denote.Triple.Spec.{Meets, tripleOf}
 use denote.Triple.Table.{entered, cited}
 use denote.Triple.Walked.{says, Stays, stay-none-slice, walkOf, goes-none-slice, Walks, ends-at, walked, walk-meets}
 use denote.Exit.{yes}
-use Rattle.format.specs.Format.{trail}
 use Rattle.record.specs.Reading.{begins}
 use Rattle.record.specs.declared.reading.Reader.{Reader}
 use Rattle.record.proofs.reading.Reader as T
@@ -81,7 +80,7 @@ module _ {M : Type 1} (𝓤 : URA M) (H : Heap 𝓤) (A : Atoms 𝓤) (W : Given
   Own = ShrSlice (named 0) κ u8 .own s (v ∷ [])
 
   abbrev Begun : ℕ → Type 0
-  Begun r = r ≡ begins trail (now s)
+  Begun r = r ≡ begins (now s)
 
   exits : (r : ℕ) → r < 2 ^ 64 → Begun r → ent 𝓤 (⋆ 𝓤 H A ((‵ (flft κ q) ⊛ ‵ ftrue) ∷ ‵ Own ∷ [])) (Post (T′.lowered (made r)))
   exits r fits e =

@@ -1,5 +1,8 @@
 use mathlib.Core.Path.{sym, _∙_}
+use Prim.Native.Nat.{suc}
 use denote.Ref.{now}
+use Rattle.format.specs.Format.{kind-of}
+use Rattle.format.specs.Laws.Kinds.{kind-of-is, more-bytes}
 use Rattle.record.specs.Laws.Reading.{stands-true, moves-on, moves-not}
 use borrow.Author.Needs.{needs}
 use Rattle.record.proofs.reading.read_on.Statement.{statement}
@@ -10,7 +13,10 @@ stands-requires c κs = search needs
 
 add-result : tie.Need-add-result
 add-result c =
-    let h = stands-true (now (c .before .before .before .args .b)) (c .before .before .before .args .k) (sym (c .before .stands .ensures) ∙ c .if1 .taken) .1 in
+    let b = now (c .before .before .before .args .b) in
+    let k = c .before .before .before .args .k in
+    let h = stands-true b k (sym (c .before .stands .ensures) ∙ c .if1 .taken) .1 in
+    let less = more-bytes (kind-of b) (kind-of-is b) (suc k) in
     search needs
 
 returns : tie.Need-returns

@@ -42,7 +42,6 @@ use denote.Triple.Table.{entered, cited}
 use denote.Triple.Walked.{says, Stays, stay-none, walkOf, goes-none, Walks, ends-at, walked, walk-meets}
 use denote.Exit.{yes}
 use denote.Triple.Clauses.{ensured, lasts}
-use Rattle.format.specs.Format.{trail}
 use Rattle.record.specs.Reading.{told-refusal}
 use Rattle.record.specs.Answers.{refused}
 use Rattle.record.specs.declared.reading.Reader.{Reader}
@@ -81,7 +80,7 @@ module _ {M : Type 1} (𝓤 : URA M) (H : Heap 𝓤) (A : Atoms 𝓤) (W : Given
   v = sliceVal (d .bytes .ptr) (length (d .bytes .now))
 
   abbrev Told : Checked → Type 0
-  Told r = refused r ≡ told-refusal trail (now (d .bytes)) (d .at)
+  Told r = refused r ≡ told-refusal (now (d .bytes)) (d .at)
 
   abbrev Post : Val → SProp 𝓤
   Post = walkOf 𝓤 H A said.ended stayed (said.clauses 𝓤 H A mem run) .post (((κ, tt), (q, tt), tt, (d, tt), (mach ∷ [], tt)), tt)

@@ -9,10 +9,10 @@ use Rattle.writing.proofs.columns.scan_columns.Statement.{statement}
 use Rattle.writing.proofs.columns.scan_columns.Tie as tie
 
 abbrev Inv-loop : tie.InvT-loop
-Inv-loop ts xs ys n s₀ k₀ s k = (1 ≤ k) × (k ≤ n) × Scanned (column-fix ts xs ys 0) (each (column-fix ts xs ys) 1 (k - 1)) s
+Inv-loop limit ts xs ys n s₀ k₀ s k = (1 ≤ k) × (k ≤ n) × Scanned limit (column-fix ts xs ys 0) (each (column-fix ts xs ys) 1 (k - 1)) s
 
 abbrev μ-loop : tie.MeasureT-loop
-μ-loop ts xs ys n s₀ k₀ s k = n - k
+μ-loop limit ts xs ys n s₀ k₀ s k = n - k
 
 column-fix-requires : tie.Need-column-fix-requires Inv-loop μ-loop
 column-fix-requires c κs = search needs
@@ -21,7 +21,7 @@ scan-first-requires : tie.Need-scan-first-requires Inv-loop μ-loop
 scan-first-requires c κs = search needs
 
 loop-holds : tie.Need-loop-holds Inv-loop μ-loop
-loop-holds c = (omega arith, omega arith, scanned-start _ _ _ (c .before .column-fix .ensures) (c .scan-first .ensures))
+loop-holds c = (omega arith, omega arith, scanned-start _ _ _ _ (c .before .column-fix .ensures) (c .scan-first .ensures))
 
 column-fix-requires-2 : tie.Need-column-fix-requires-2 Inv-loop μ-loop
 column-fix-requires-2 c κs = search needs
@@ -38,7 +38,7 @@ loop-less c = search needs
 loop-again : tie.Need-loop-again Inv-loop μ-loop
 loop-again c =
     let i = c .before .before .before .loop .inv in
-    (omega arith, omega arith, scanned-step _ (c .before .before .before .loop .k) _ _ (i .0) (c .before .column-fix2 .ensures) (c .scan-next .ensures _ _ (i .2)))
+    (omega arith, omega arith, scanned-step _ _ (c .before .before .before .loop .k) _ _ (i .0) (c .before .column-fix2 .ensures) (c .scan-next .ensures _ _ (i .2)))
 
 returns : tie.Need-returns Inv-loop μ-loop
 returns c =

@@ -1,0 +1,28 @@
+-- The kind decides nothing where no kind has the number that stands there.
+use mathlib.Core.Path.{_≡_, refl}
+use mathlib.Core.Bool.{false, cond}
+use mathlib.Core.List.{List}
+use mathlib.Core.Option.{some, none}
+use Prim.Native.Nat.{ℕ}
+use lib.Dec.{ltb}
+use lib.ListN.{length}
+use Rattle.format.specs.Kinds.{Kind, kinds, coded}
+use Rattle.format.specs.Format.{kind-field}
+use Rattle.record.specs.Checks.{Operation, reading, writing, aging, aging-by-days, placing, crossing, Given, first, sentence, asked-of, refusal}
+use Rattle.record.specs.Reading.{yields}
+use Rattle.record.specs.Laws.Reading.{stands-unknown, yields-none}
+
+-- AN UNKNOWN KIND: whatever an operation over lent bytes is asked, and whatever stands in their other bytes, the answer is the refusal 1 or 2 ..
+pub unknown-kind : (o : Operation) (K : Kind) (b : List ℕ) (g : Given) → (o ≡ writing → ⊥) → coded kinds (kind-field b) ≡ false
+    → refusal K o (asked-of b g) ≡ cond (ltb (length b) 10) (some 1) (some 2)
+unfolding first sentence
+unknown-kind reading K b g w h = rw h refl
+unknown-kind writing K b g w h = absurd (w refl)
+unknown-kind aging K b g w h = rw h refl
+unknown-kind aging-by-days K b g w h = rw h refl
+unknown-kind placing K b g w h = rw h refl
+unknown-kind crossing K b g w h = rw h refl
+
+-- .. and a reader, at whatever position somebody puts it, yields nothing.
+pub unknown-yields-none : (b : List ℕ) (k : ℕ) → coded kinds (kind-field b) ≡ false → yields b k ≡ none
+unknown-yields-none b k h = yields-none b k (stands-unknown b k h)
