@@ -105,8 +105,8 @@ abbrev pub answered : List ℕ → Call → Answer ℕ
 answered b (by-tolerance e) = age-answer b e
 answered b (by-days days) = days-answer b days
 
--- The tolerance that a call applies to an accepted record of a kind, in its unit: none if check 10 turns it away, or if its days give none (`turned-away` of Laws/Step.antt
--- and the laws below it).
+-- The tolerance that a call applies to an accepted record of a kind, in its unit: none if check 10 turns it away, or if its days give none (`turned-away` of
+-- Laws/Step.antt and the laws below it).
 unfoldable pub applies : Kind → Call → Option ℕ
 applies K (by-tolerance e) = cond (leb e (K .top)) (some e) none
 applies K (by-days days) = days-apply K days

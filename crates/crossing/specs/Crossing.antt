@@ -48,8 +48,8 @@ abbrev pub Means : (limit : ℕ) → List Fix → Box → (s e : ℕ) → Option
 Means limit l box s e (some f) = Told limit l box s e (f .num) (f .den)
 Means limit l box s e none = Denied l box s e
 
--- ---- when two answers say the same: the told time f is the time g. "Its value is fixed; its form is free, with a denominator from 1 to 32,000.", which is twice the
--- limit of its kind's places, as 320,000 is in item 8.
+-- ---- when two answers say the same: the told time f is the time g. "Its value is fixed; its form is free, with a denominator from 1 to 32,000.", which is twice
+-- the limit of its kind's places, as 320,000 is in item 8.
 pub record SameTime (K : Kind) (f g : Fraction) : Type 0 where
   pub same-value : f .num * g .den ≡ g .num * f .den
   pub at-least : 1 ≤ f .den

@@ -1,18 +1,18 @@
--- THE CROSSING IN NUMBERS. Bytes, windows and boxes, written out, and what document 01 and document 02's items 4 and 8 say of them: the definitions and the code cannot be
--- changed together without these rows. Each line is computed.
+-- THE CROSSING IN NUMBERS. Bytes, windows and boxes, written out, and what document 01 and document 02's items 4 and 8 say of them: the definitions and the code
+-- cannot be changed together without these rows. Each line is computed.
 use mathlib.Core.Path.{_≡_, refl}
 use mathlib.Core.List.{List, [], _∷_}
 use mathlib.Core.Option.{Option, some, none}
-use Prim.Native.Nat.{ℕ}
+use Prim.Native.Nat.{ℕ, _≤_}
 use lib.IntN.{ℤ, pos}
 use Rattle.distance.specs.Examples.{Computes, minus}
-use Rattle.distance.specs.Fix.{last-of}
+use Rattle.distance.specs.Fix.{Fix, last-of}
 use Rattle.distance.specs.Clock.{moved}
 use Rattle.distance.specs.Tenfold.{tenfold-box}
 use Rattle.distance.specs.Laws.All.{All, all-always}
 use Rattle.distance.specs.Box.{Box, box-with}
 use Rattle.format.specs.Bytes.{number-at, bytes-of, signed, unsigned}
-use Rattle.format.specs.Kinds.{millimetre-trail}
+use Rattle.format.specs.Kinds.{trail, millimetre-trail}
 use Rattle.format.specs.Format.{kind-of, fix-at, fix-from, each, fix-to, fix-bytes, all-bytes, header-bytes, record-bytes, changed}
 use Rattle.format.specs.Laws.RoundTrip.{all-below, computed-bytes}
 use Rattle.record.specs.Checks.{sentence, first, some-outside, some-early-after, some-early, of-ends}
@@ -23,7 +23,7 @@ use Rattle.record.specs.Laws.Tenfold.{tenfold-never}
 use Rattle.record.specs.Examples.{read-rows, on-refused, MovableRow, movable-rows}
 use Rattle.legs.specs.declared.Fraction.{Fraction}
 use Rattle.legs.specs.Legs.{fraction, later-of, earlier-of, first-of, axis-times, leg-times, leg-first}
-use Rattle.crossing.specs.Crossing.{first-from, first-crossing, cross-answer, SameCrossing}
+use Rattle.crossing.specs.Crossing.{Told, first-from, first-crossing, cross-answer, SameCrossing}
 use Rattle.crossing.specs.Laws.Moved.{cross-answer-moved}
 use Rattle.crossing.specs.Laws.Tenfold.{cross-answer-tenfold}
 
@@ -118,6 +118,11 @@ pub millimetre-crossings-computed : Computes (λ (q : ℕ × ℕ × Box). cross-
     × (cross-answer longest-trail 0 65535 (box-with (pos 160000) (pos 160000) (pos 0) (pos 0)) ≡ yes-at 20971200000 320000)
 unfolding first sentence some-outside some-early-after some-early last-of of-ends kind-of fix-at fix-from each number-at signed first-crossing first-from leg-first leg-times axis-times first-of later-of earlier-of
 millimetre-crossings-computed = (refl, refl)
+
+-- "a denominator from 1 to 32,000", and of kind 2 up to 320,000: what yes promises of it
+pub denominators-told : {l : List Fix} {box : Box} {s e n d : ℕ}
+    → (Told (trail .limit) l box s e n d → (1 ≤ d) × (d ≤ 32000)) × (Told (millimetre-trail .limit) l box s e n d → (1 ≤ d) × (d ≤ 320000))
+denominators-told = ((λ t. (t .some-denominator, t .small-denominator)), (λ t. (t .some-denominator, t .small-denominator)))
 
 -- ---- THE CLOCK MOVED: the first trail above with its last fix in the last second of 32 bits, and with its first fix in the second 1. Every row is as before, its
 -- window moved alike, down to the numerator and the denominator.

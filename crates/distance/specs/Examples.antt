@@ -1,5 +1,5 @@
--- ROUNDING, MIRRORING, MOVING, SCALING AND MEASURING IN NUMBERS: what document 02's items 1, 4 and 8 say of fractions, coordinates, times and distances. The definitions and
--- the code cannot be changed together without these rows. Each line is computed.
+-- ROUNDING, MIRRORING, MOVING, SCALING AND MEASURING IN NUMBERS: what document 02's items 1, 4 and 8 say of fractions, coordinates, times and distances. The
+-- definitions and the code cannot be changed together without these rows. Each line is computed.
 use mathlib.Core.Path.{_≡_, refl}
 use mathlib.Core.Bool.{Bool, true, false}
 use mathlib.Core.List.{List, [], _∷_, map}
@@ -108,8 +108,8 @@ pub deviation-computed : Computes (λ (r : ℕ × ℕ). deviation (opposite-corn
 unfolding deviation
 deviation-computed = refl
 
--- ONE WORD OR TWO: the square of `one-word` is below 2⁶³ and the next number's isn't. By 2·limit·D, every span of document 01's limit takes one word, and of item 8's
--- those of up to 9,490 seconds.
+-- ONE WORD OR TWO: the square of `one-word` is below 2⁶³ and the next number's isn't. By 2·limit·D, every span of document 01's limit takes one word, and of item
+-- 8's those of up to 9,490 seconds.
 pub one-word-computed : (ltb (one-word * one-word) 9223372036854775808 ∷ ltb ((one-word + 1) * (one-word + 1)) 9223372036854775808 ∷ [] ≡ true ∷ false ∷ [])
     × (leb (2 * 16000 * 65535) one-word ∷ leb (2 * widest * 9490) one-word ∷ leb (2 * widest * 9491) one-word ∷ [] ≡ true ∷ true ∷ false ∷ [])
 one-word-computed = (refl, refl)

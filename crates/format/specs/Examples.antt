@@ -1,4 +1,5 @@
--- THE FORMAT IN NUMBERS: what document 01 writes out, and document 02's item 8. The definitions and the code cannot be changed together without these rows. Each line is computed.
+-- THE FORMAT IN NUMBERS: what document 01 writes out, and document 02's item 8. The definitions and the code cannot be changed together without these rows. Each
+-- line is computed.
 use mathlib.Core.Path.{_≡_, refl}
 use mathlib.Core.List.{List, [], _∷_, map}
 use Prim.Native.Nat.{ℕ}

@@ -105,8 +105,8 @@ millimetres-mirrored = refl
 pub movable-placed : All (λ (m : MovableRow). place-answer (moved-record (m .by) (m .buffer)) (moved (m .by) (m .asked)) 500 ≡ place-answer (m .buffer) (m .asked) 500) movable-rows
 movable-placed = all-always (λ (m : MovableRow). place-answer-moved (m .by) (m .buffer) (m .bytes) (m .movable) (m .asked) 500 (m .asked-stays)) movable-rows
 
--- ---- CENTIMETRES AND MILLIMETRES: the first trail above in the other unit. Each fraction is over the same denominator with ten times the numerators, whatever is rounded,
--- and each refusal is the same.
+-- ---- CENTIMETRES AND MILLIMETRES: the first trail above in the other unit. Each fraction is over the same denominator with ten times the numerators, whatever is
+-- rounded, and each refusal is the same.
 pub tenfold-moments : Computes (λ (p : ℕ × ℕ). place-answer (tenfold-record place-trail) (p .0) (p .1))
     (((1000, 0), opposite 0 0)
     ∷ ((1010, 0), opposite 500000 50)

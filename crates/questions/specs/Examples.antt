@@ -161,8 +161,8 @@ pub movable-after : All (λ (m : MovableRow). after-answer (moved-record (m .by)
     ≡ after-answer (m .buffer) (by-days 7 ∷ by-tolerance 32001 ∷ []) (m .asked) (m .asked) shelf) movable-rows
 movable-after = all-always (λ (m : MovableRow). after-answer-moved (m .by) (m .buffer) (by-days 7 ∷ by-tolerance 32001 ∷ []) (m .bytes) (m .movable) (m .asked) (m .asked) shelf (m .asked-stays) (m .asked-stays)) movable-rows
 
--- ---- CENTIMETRES AND MILLIMETRES: the buffer above, and its trail in millimetres. The claim holds of every two lists of the same agings, such as these: at 12 and 120, at a
--- tolerance that each turns away, by days, which is at 25 and 250, and at the greatest that both have.
+-- ---- CENTIMETRES AND MILLIMETRES: the buffer above, and its trail in millimetres. The claim holds of every two lists of the same agings, such as these: at 12 and
+-- 120, at a tolerance that each turns away, by days, which is at 25 and 250, and at the greatest that both have.
 pub lent-in-millimetres : {calls tens : List Call} → TenfoldCalls calls tens → TenfoldClaim lent (tenfold-record lent) calls tens
 unfolding kind-of number-at
 lent-in-millimetres k = made-tenfold lent lent-bytes lent-accepted refl lent-never k
@@ -170,8 +170,8 @@ lent-in-millimetres k = made-tenfold lent lent-bytes lent-accepted refl lent-nev
 pub same-agings : TenfoldCalls (by-tolerance 12 ∷ by-tolerance 32001 ∷ by-days 7 ∷ by-tolerance 6000 ∷ []) (by-tolerance 120 ∷ by-tolerance 60001 ∷ by-days 7 ∷ by-tolerance 60000 ∷ [])
 same-agings = and-then (at-ten-times {e = 12} (omega arith)) (and-then (both-too-high {e = 32001} {d = 60001} (omega arith) (omega arith)) (and-then by-same-days (and-then (at-ten-times {e = 6000} (omega arith)) no-calls)))
 
--- In numbers: at 120 the first, the second and the last fix stay, as at 12, and by days of those the first and the last, under a mark of 250. (0, 20 and 0 centimetres are
--- 0, 200 and 0 millimetres.)
+-- In numbers: at 120 the first, the second and the last fix stay, as at 12, and by days of those the first and the last, under a mark of 250. (0, 20 and 0
+-- centimetres are 0, 200 and 0 millimetres.)
 abbrev pub millimetres-at-120 : List ℕ
 millimetres-at-120 =
     46 ∷ 0 ∷ 0 ∷ 0 ∷ 2 ∷ 0 ∷ 120 ∷ 0 ∷ 3 ∷ 0

@@ -1,9 +1,9 @@
--- CENTIMETRES AND MILLIMETRES, as one claim about a trail that is recorded in both, and about a whole list of agings of it, with every question that may be asked of the two
--- records after it. Document 02, item 8, says that "The meaning is shown one time [..] for both units"; this is what ties the two together, and what halls that move from one to the other rely on:
--- a record of kind 1 with every coordinate times ten, as kind 2, aged at ten times the tolerance, keeps the same positions with the same count, and places and
--- crossings are the same lengths and times.
--- b begins with a record of kind 1 and c with the same trail's of kind 2: `Tenfold` of the record's Tenfold.antt, which holds of b and `tenfold-record b`. The claim is proved in
--- Laws/Tenfold.antt: `tenfold-claim` of any two such buffers, and `made-tenfold` of b and `tenfold-record b`.
+-- CENTIMETRES AND MILLIMETRES, as one claim about a trail that is recorded in both, and about a whole list of agings of it, with every question that may be asked
+-- of the two records after it. Document 02, item 8, says that "The meaning is shown one time [..] for both units"; this is what ties the two together, and what
+-- halls that move from one to the other rely on: a record of kind 1 with every coordinate times ten, as kind 2, aged at ten times the tolerance, keeps the same
+-- positions with the same count, and places and crossings are the same lengths and times. b begins with a record of kind 1 and c with the same trail's of kind 2:
+-- `Tenfold` of the record's Tenfold.antt, which holds of b and `tenfold-record b`. The claim is proved in Laws/Tenfold.antt: `tenfold-claim` of any two such
+-- buffers, and `made-tenfold` of b and `tenfold-record b`.
 use mathlib.Core.Path.{_≡_}
 use mathlib.Core.Bool.{Bool}
 use mathlib.Core.List.{List, [], _∷_}
@@ -23,8 +23,8 @@ use Rattle.crossing.specs.Crossing.{SameCrossing}
 use Rattle.questions.specs.Agings.{run, run-answer, after-answer}
 use Rattle.questions.specs.Claim.{book, bound-after}
 
--- Two lists of the same agings, the one in centimetres and the other in millimetres. A list with an aging at more than 6,000 and at most 32,000 centimetres has none in
--- millimetres.
+-- Two lists of the same agings, the one in centimetres and the other in millimetres. A list with an aging at more than 6,000 and at most 32,000 centimetres has
+-- none in millimetres.
 pub data TenfoldCalls : (in-centimetres in-millimetres : List Call) → Type 0 where
   no-calls : TenfoldCalls [] []
   and-then : {q r : Call} {calls tens : List Call} → TenfoldCall q r → TenfoldCalls calls tens → TenfoldCalls (q ∷ calls) (r ∷ tens)

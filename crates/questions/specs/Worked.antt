@@ -1,7 +1,7 @@
 -- TRAILS WORKED BY HAND. Document 01: "Fixes as (t, x, y), positions from 0. All twelve are to be shown of the definitions by one shared statement over
--- a list of them". The list is `rows`, the line below the table is `rows-below`, and `millimetre-rows` has those of kind 2. The statement is `Holds` of each row, and `worked`,
--- `worked-below` and `worked-in-millimetres` prove it.
--- Every row speaks of a record's bytes and of the definitions that the contracts of the calls cite.
+-- a list of them". The list is `rows`, the line below the table is `rows-below`, and `millimetre-rows` has those of kind 2. The statement is `Holds` of each row,
+-- and `worked`, `worked-below` and `worked-in-millimetres` prove it. Every row speaks of a record's bytes and of the definitions that the contracts of the calls
+-- cite.
 use mathlib.Core.Path.{_≡_, refl}
 use mathlib.Core.List.{List, [], _∷_, _++_, map}
 use mathlib.Core.Option.{Option, some, none}
@@ -233,13 +233,14 @@ rows-below =
 abbrev pub tenfold : List Fix → List Fix
 tenfold l = map tenfold-fix l
 
--- from one corner of the places there are to the other and back: the fix in the middle has Nx = 320,000·65,535 and Ny = −Nx, and Nx² + Ny² = 879,582,458,880,000,000,000,
--- which is 47·2⁶⁴ + 12,585,487,415,651,074,048. At 60,000 the allowance is 15,461,410,410,000,000,000: above what one word would have left of that sum.
+-- from one corner of the places there are to the other and back: the fix in the middle has Nx = 320,000·65,535 and Ny = −Nx, and Nx² + Ny² =
+-- 879,582,458,880,000,000,000, which is 47·2⁶⁴ + 12,585,487,415,651,074,048. At 60,000 the allowance is 15,461,410,410,000,000,000: above what one word would have
+-- left of that sum.
 abbrev pub corners : List Fix
 corners = record { t = 0; x = minus 160000; y = pos 160000 } ∷ record { t = 1; x = pos 160000; y = minus 160000 } ∷ record { t = 65535; x = minus 160000; y = pos 160000 } ∷ []
 
--- of its inner fixes the second is the furthest: (160,000·65,535)² = 25,599,218,755·2³² + 4,125,163,520, and of the first (159,983·65,535)² = 25,593,779,210·2³² + 4,148,952,865,
--- which has the greater low word. Split at the first, the second would go.
+-- of its inner fixes the second is the furthest: (160,000·65,535)² = 25,599,218,755·2³² + 4,125,163,520, and of the first (159,983·65,535)² = 25,593,779,210·2³² +
+-- 4,148,952,865, which has the greater low word. Split at the first, the second would go.
 abbrev pub words-apart : List Fix
 words-apart = fix 0 0 0 ∷ fix 1 159983 0 ∷ fix 2 160000 0 ∷ fix 65535 0 0 ∷ []
 

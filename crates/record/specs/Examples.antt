@@ -150,8 +150,8 @@ unfolding kind-of first sentence some-outside some-early-after some-early last-o
 none-read = (refl, refl, refl, refl)
 
 -- ---- BUFFERS WHOSE CLOCK IS MOVED, with all that the laws of it ask, so that nothing they ask is empty: document 01's 18 bytes, their fix moved to the last second
--- of 32 bits and to the first; the same with x = 16,001, which 7 turns away; and with the mark 32,001, which 6 turns away, so that its time may leave 32 bits. Last a record of kind 2 with fixes at 0 and 7, whose latest
--- becomes the last second.
+-- of 32 bits and to the first; the same with x = 16,001, which 7 turns away; and with the mark 32,001, which 6 turns away, so that its time may leave 32 bits. Last
+-- a record of kind 2 with fixes at 0 and 7, whose latest becomes the last second.
 pub record MovableRow : Type 0 where
   pub by : ℤ
   pub buffer : List ℕ
@@ -206,8 +206,8 @@ movable-rows =
     }
     ∷ []
 
--- ---- CENTIMETRES IN MILLIMETRES: document 01's fix, (1000, −1, 2), under a mark of these two bytes, and (1000, −10, 20). A mark of 6,000 becomes 60,000, `never` stays,
--- and what stands behind the record is left out.
+-- ---- CENTIMETRES IN MILLIMETRES: document 01's fix, (1000, −1, 2), under a mark of these two bytes, and (1000, −10, 20). A mark of 6,000 becomes 60,000, `never`
+-- stays, and what stands behind the record is left out.
 abbrev pub centimetre-record : (low high : ℕ) → List ℕ
 centimetre-record low high = 18 ∷ 0 ∷ 0 ∷ 0 ∷ 1 ∷ 0 ∷ low ∷ high ∷ 1 ∷ 0 ∷ 232 ∷ 3 ∷ 0 ∷ 0 ∷ 255 ∷ 255 ∷ 2 ∷ 0 ∷ 7 ∷ 9 ∷ []
 

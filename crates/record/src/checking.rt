@@ -24,8 +24,8 @@ use format::mark_at;
 use format::record_length;
 use format::top_of;
 
-// Whether a coordinate is outside a kind's limit. They are compared in the coordinate's own 32 bits, of which the machine takes several at once; nothing is outside a
-// limit that these don't hold.
+// Whether a coordinate is outside a kind's limit. They are compared in the coordinate's own 32 bits, of which the machine takes several at once; nothing is outside
+// a limit that these don't hold.
 pub fn outside(c: Coordinate, limit: u32) -> bool
     ensures { λ r. ⌜ r ≡ outside limit (c .0) ⌝ }
 {

@@ -31,8 +31,9 @@ pub listing-prints : Computes text text-rows
 unfolding kind-of text record-text refusal-line first-line mark-text fix-lines fix-line integer decimal digits first sentence some-outside some-early-after some-early last-of of-ends fix-from fix-at each number-at signed
 listing-prints = refl
 
--- THE LONGEST TEXT, of a record of any kind: "trail 4096 never" and its end; 4,096 lines of "fix ", a time of 32 bits, which has ten digits at most, and two coordinates
--- with a space before each, which take seven bytes at most, as "-160000" does, since no kind's places are further from 0 than the widest; and "end" and its end.
+-- THE LONGEST TEXT, of a record of any kind: "trail 4096 never" and its end; 4,096 lines of "fix ", a time of 32 bits, which has ten digits at most, and two
+-- coordinates with a space before each, which take seven bytes at most, as "-160000" does, since no kind's places are further from 0 than the widest; and "end" and
+-- its end.
 pub longest-text : (length (first-line 4096 never) ≡ 17) × (length (integer (minus widest)) ≡ 7) × (length end-line ≡ 4) × (17 + 4096 * (4 + 10 + (1 + 7) + (1 + 7) + 1) + 4 ≡ 126997)
 unfolding first-line mark-text integer decimal digits
 longest-text = (refl, refl, refl, refl)

@@ -1,6 +1,6 @@
 -- THE LISTING. Document 01: "First line: count, then mark or `never`. Each fix: time, x, y. A refusal prints one line: `refused`, a space and the
--- number. Every line ends with the byte `0A`." Text is a list of bytes, ASCII. Document 02, item 8, adds a kind of record in millimetres: its lines are the same, and
--- the mark and the places are numbers of the record's own unit.
+-- number. Every line ends with the byte `0A`." Text is a list of bytes, ASCII. Document 02, item 8, adds a kind of record in millimetres: its lines are the same,
+-- and the mark and the places are numbers of the record's own unit.
 use mathlib.Core.Bool.{cond}
 use mathlib.Core.List.{List, [], _∷_, _++_}
 use mathlib.Core.Option.{some, none}

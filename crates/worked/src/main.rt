@@ -1,6 +1,6 @@
 // Document 01's trails worked by hand, run through the calls that a line control makes: each is written as a record, and what is asked of it is asked of
-// the record's bytes. One line a row, to be laid beside the paper's table, whose row k document 02's item 1 has changed; below it rows in millimetres. Nothing here knows what the
-// answers should be; specs/Worked.antt of the questions layer proves them of the definitions.
+// the record's bytes. One line a row, to be laid beside the paper's table, whose row k document 02's item 1 has changed; below it rows in millimetres. Nothing here
+// knows what the answers should be; specs/Worked.antt of the questions layer proves them of the definitions.
 use aging::Aged;
 use crossing::Edges;
 use crossing::Window;

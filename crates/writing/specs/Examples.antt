@@ -1,5 +1,5 @@
--- THE WRITER IN NUMBERS. Fixes, the length of an output, and what document 01 and document 02's item 8 say of them: the definitions and the code cannot be changed together
--- without these rows. Each line is computed.
+-- THE WRITER IN NUMBERS. Fixes, the length of an output, and what document 01 and document 02's item 8 say of them: the definitions and the code cannot be changed
+-- together without these rows. Each line is computed.
 use mathlib.Core.Path.{_≡_, refl}
 use mathlib.Core.List.{List, [], _∷_, _++_}
 use mathlib.Core.Option.{Option, some, none}

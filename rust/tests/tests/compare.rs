@@ -263,13 +263,9 @@ fn a_crossing_that_is_missed_is_shown_by_one_leg() {
         panic!("{case:?}");
     };
     assert_eq!(question.window, Window { start: 0, end: 1 });
-    let Area {
-        left,
-        right,
-        bottom,
-        top,
-    } = question.area;
-    assert_eq!((left, bottom), (right, top), "{fixes:?}");
+    let area = question.area;
+    let (low, high) = ((area.left, area.bottom), (area.right, area.top));
+    assert_eq!(low, high, "{fixes:?}");
 }
 
 #[test]

@@ -1,5 +1,5 @@
--- AN AGING OF THE SAME TRAIL IN CENTIMETRES AND IN MILLIMETRES: the same count or refusal, and the same trail again, with its fixes kept at the same positions and its
--- mark ten times as great.
+-- AN AGING OF THE SAME TRAIL IN CENTIMETRES AND IN MILLIMETRES: the same count or refusal, and the same trail again, with its fixes kept at the same positions and
+-- its mark ten times as great.
 use mathlib.Core.Path.{_≡_, refl, sym, subst, _∙_, ap}
 use mathlib.Core.Bool.{Bool, true, false, cond}
 use mathlib.Core.List.{List, map}

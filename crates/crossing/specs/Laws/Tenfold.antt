@@ -24,7 +24,9 @@ use Rattle.crossing.specs.Crossing.{Crosses, first-time, after-first, To
 use Rattle.crossing.specs.Laws.Search.{edges-outside}
 use Rattle.crossing.specs.Laws.Checking.{asks-crossing, own-checks, given-means}
 
--- ---- WHAT IT MEANS DECIDES AN ANSWER: of two trails that begin together and cross at the same times, each its own box, the answers say the same, whatever their form is
+-- ---- WHAT IT MEANS DECIDES AN ANSWER: of two trails that begin together and cross at the same times, each its own box, the answers say the same, whatever their
+-- form is.
+
 -- the time that is told of one isn't later than any at which the other crosses
 not-later : {i j : ℕ} (l m : List Fix) (a b : Box) (s e : ℕ) {n d p q : ℕ} → Told i l a s e n d → Told j m b s e p q → first-time m ≡ first-time l
     → ((u : Time) → Crosses m b s e u → Crosses l a s e u) → n * q ≤ p * d

@@ -1,5 +1,5 @@
--- A TRAIL WITH EACH COORDINATE CHANGED, every x by g and every y by h: if each of the two leaves 0 and goes with interpolation, the trail's place is at every time the
--- changed one.
+-- A TRAIL WITH EACH COORDINATE CHANGED, every x by g and every y by h: if each of the two leaves 0 and goes with interpolation, the trail's place is at every time
+-- the changed one.
 use mathlib.Core.Path.{_≡_, refl}
 use mathlib.Core.Bool.{Bool, true, false, cond}
 use mathlib.Core.List.{List, [], _∷_, map}

@@ -239,8 +239,8 @@ pub leg-each : (P : Fraction → Type 0) (a b : Raised) (f : Frame) (w v : ℕ) 
 unfolding leg-times
 leg-each P a b f w v l o x y = both-each P (both-each P (both-each P l o) x) y
 
--- ---- THE DENOMINATOR. Where no place of a leg is further from 0 than a limit, it is at most twice that limit: 32,000 for kind 1, and 320,000 for kind 2. (That it is
--- at least 1 is `some-den` of `First`.)
+-- ---- THE DENOMINATOR. Where no place of a leg is further from 0 than a limit, it is at most twice that limit: 32,000 for kind 1, and 320,000 for kind 2. (That it
+-- is at least 1 is `some-den` of `First`.)
 apart : {limit : ℕ} {i j : ℤ} {I J : ℕ} → Counts i I → Counts j J → negℤ (pos limit) ≤ℤ i → j ≤ℤ pos limit → J - I ≤ 2 * limit
 apart ci cj h k = omega (arith, simp (ci .is, diffs) at h, simp (cj .is, diffs) at k)
 

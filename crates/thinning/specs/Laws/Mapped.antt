@@ -1,5 +1,6 @@
--- Thinning looks at nothing but how what fixes measure compares. So if each fix is changed, and of any two the further one and of each whether it is within the tolerance
--- is as before, it keeps the changed ones of those that it kept, and the count is the same. The tolerance may be changed with them: e before, d afterwards.
+-- Thinning looks at nothing but how what fixes measure compares. So if each fix is changed, and of any two the further one and of each whether it is within the
+-- tolerance is as before, it keeps the changed ones of those that it kept, and the count is the same. The tolerance may be changed with them: e before, d
+-- afterwards.
 use mathlib.Core.Path.{_≡_, refl, _∙_, ap, subst}
 use mathlib.Core.List.{List, [], _∷_, _++_, map, map-append}
 use Prim.Native.Nat.{ℕ, _+_, _≤_, _<_}

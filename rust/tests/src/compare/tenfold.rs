@@ -67,21 +67,12 @@ fn calls(numbers: &[u32]) -> Option<Vec<u32>> {
 }
 
 fn question(question: &Question) -> Option<Question> {
-    let Area {
-        left,
-        right,
-        bottom,
-        top,
-    } = question.area;
-    Some(Question {
-        window: question.window,
-        area: Area {
-            left: left.checked_mul(10)?,
-            right: right.checked_mul(10)?,
-            bottom: bottom.checked_mul(10)?,
-            top: top.checked_mul(10)?,
-        },
-    })
+    let Question { window, area } = *question;
+    let edge = |edge: i32| edge.checked_mul(10);
+    let x = (edge(area.left)?, edge(area.right)?);
+    let y = (edge(area.bottom)?, edge(area.top)?);
+    let area = Area::new(x, y);
+    Some(Question { window, area })
 }
 
 fn asked(operation: &Operation) -> Option<Operation> {
