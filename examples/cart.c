@@ -1,5 +1,5 @@
-/* One cart's trail from C: written, listed, aged over some days, and asked about; and
- * the same in millimetres.
+/* One cart's trail from C: written, listed, aged over some days, and asked about; the
+ * same with a silence in it; and the same in millimetres.
  *
  *   rt staticlib export
  *   cc -I include examples/cart.c target/staticlib/libexport.a -o cart && ./cart
@@ -15,11 +15,14 @@ static const uint32_t times[FIXES] = {1000, 1010, 1020, 1050, 1060, 1080};
 static const int32_t xs[FIXES] = {0, 100, 200, 200, 195, 185};
 static const int32_t ys[FIXES] = {0, 0, 3, 3, 120, 360};
 
+/* It goes behind the cold store, and isn't heard of from second 1050 to 1060. */
+static const uint8_t silences[FIXES] = {0, 0, 0, 1, 0, 0};
+
 /* The same cart, seen in millimetres. */
 static const int32_t fine_xs[FIXES] = {0, 1004, 1998, 2001, 1952, 1847};
 static const int32_t fine_ys[FIXES] = {0, 2, 29, 31, 1203, 3598};
 
-/* a fix has 8 bytes in centimetres, and 12 in millimetres */
+/* a fix has 8 bytes in centimetres, 9 with silences, and 12 in millimetres */
 static uint8_t record[10 + 12 * FIXES];
 static uint8_t text[TRAILS_TEXT];
 
@@ -46,12 +49,14 @@ static void run(const uint32_t *calls, size_t count) {
         printf("list: %zu of %zu calls turned away\n", done.turned_away, count);
 }
 
-/* Reads all fixes, and prints the longest leg, the first of equals. */
+/* Reads all fixes, and prints the longest leg, the first of equals. What isn't wanted,
+ * here the silences, is a column of no length. */
 static void longest(void) {
     uint32_t t[FIXES];
     int32_t x[FIXES], y[FIXES];
+    uint8_t unused;
     struct trails_answer read =
-        trails_read_all(record, sizeof record, t, FIXES, x, FIXES, y, FIXES);
+        trails_read_all(record, sizeof record, t, FIXES, x, FIXES, y, FIXES, &unused, 0);
     uint32_t end = 1;
     if (read.refusal != TRAILS_ACCEPTED || read.value < 2) {
         printf("no leg\n");
@@ -70,7 +75,9 @@ static void where(uint32_t second, uint16_t thousandths) {
     struct trails_head head = trails_check(record, sizeof record);
     const char *unit = head.kind == TRAILS_MILLIMETRES ? "mm" : "cm";
     struct trails_place p = trails_place(record, sizeof record, second, thousandths);
-    if (p.refusal != TRAILS_ACCEPTED)
+    if (p.refusal == TRAILS_IN_SILENCE)
+        printf("at %u.%03u: in a silence, so nobody knows\n", (unsigned)second, thousandths);
+    else if (p.refusal != TRAILS_ACCEPTED)
         printf("at %u.%03u: refused %u\n", (unsigned)second, thousandths, (unsigned)p.refusal);
     else
         printf("at %u.%03u: %lld/%u, %lld/%u, so about %d, %d %s\n", (unsigned)second,
@@ -89,6 +96,22 @@ static void packed(uint32_t start, uint32_t end) {
                (unsigned)end, (unsigned long long)c.numerator, (unsigned)c.denominator);
     else
         printf("from %u to %u: not packed\n", (unsigned)start, (unsigned)end);
+}
+
+/* The same trail with its silence: between the two ends nothing is said, and both stay. */
+static void with_silences(void) {
+    struct trails_answer written = trails_write_silences(
+        times, FIXES, xs, FIXES, ys, FIXES, silences, FIXES, record, sizeof record);
+    if (written.refusal != TRAILS_ACCEPTED) {
+        printf("refused %u\n", (unsigned)written.refusal);
+        return;
+    }
+    where(1050, 0);
+    where(1055, 0);
+    packed(1000, 1080);
+    packed(1051, 1059);
+    aged("90 days", trails_age_by_days(record, sizeof record, 90));
+    list();
 }
 
 /* The same trail in millimetres: every length that goes in or comes out is in these. */
@@ -133,6 +156,7 @@ int main(void) {
     where(1015, 500);
     packed(1000, 1080);
 
+    with_silences();
     in_millimetres();
     return 0;
 }

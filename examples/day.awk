@@ -1,4 +1,5 @@
-# A day of one tray cart, as lines 'time x y' for `trail write`: it waits at a belt, is pushed to the next, and so on through the hall.
+# A day of one tray cart, as lines 'time x y' for `trail write`: it waits at a belt, is pushed to the next, and so on through the hall. Now and then it goes
+# behind the cold store, where it isn't heard; the last line before that ends with 'silence'.
 #
 #     awk -f examples/day.awk > day.txt
 #
@@ -30,6 +31,14 @@ function pushed(to_x, to_y, reports, k, part) {
     y = to_y
 }
 
+# it is pushed behind the cold store, and heard again where it comes out
+function unheard(to_x, to_y, minutes) {
+    printf "%d %d %d silence\n", time, x, y
+    time += 60 * minutes
+    x = to_x
+    y = to_y
+}
+
 BEGIN {
     seed = 1
     time = 21600
@@ -43,6 +52,9 @@ BEGIN {
         waits(10)
         pushed(1400, 420, 15)    # across to the packing area
         waits(25 + wobble(8))
-        pushed(-1500, -600, 20)  # and back to the wash
+        if (round % 8 == 5)
+            unheard(-1500, -600, 9)  # and back to the wash, by the cold store
+        else
+            pushed(-1500, -600, 20)  # or straight
     }
 }

@@ -14,29 +14,51 @@
  *
  *   bytes   what
  *   0..3    length of the whole record
- *   4..5    kind: 1 is a trail in centimetres, 2 one in millimetres
+ *   4..5    kind: 1 is a trail in centimetres, 2 one in millimetres, 3 one in
+ *           centimetres with silences
  *   6..7    mark: greatest tolerance applied so far,
  *           or 65,535 for a trail that was never thinned
  *   8..9    count of fixes, 1 to 4,096
- *   10..    for each fix its time (4, unsigned), x and y (2 each of kind 1, and
- *           4 of kind 2; in two's complement)
+ *   10..    for each fix its time (4, unsigned), x and y (2 each of kinds 1 and 3,
+ *           and 4 of kind 2; in two's complement), and of kind 3 a silence byte:
+ *           1 if a silence follows the fix, 0 if none does
  *
- *                                         kind 1               kind 2
- *   all lengths are in                    centimetres          millimetres
- *   bytes of a fix                        8                    12
- *   length                                10 + 8 * count       10 + 12 * count
- *   an x, a y and a box's edge            -16,000 to 16,000    -160,000 to 160,000
- *   a tolerance, and a mark but 65,535    0 to 32,000          0 to 60,000
+ *                           kind 1               kind 2                 kind 3
+ *   all lengths are in      centimetres          millimetres            as kind 1
+ *   bytes of a fix          8                    12                     9
+ *   length                  10 + 8 * count       10 + 12 * count        10 + 9 * count
+ *   an x, a y and a         -16,000 to 16,000    -160,000 to 160,000    as kind 1
+ *   box's edge
+ *   a tolerance, and a      0 to 32,000          0 to 60,000            as kind 1
+ *   mark but 65,535
  *
  * Times are in seconds. Places, marks, tolerances and boxes are in the record's
  * own unit, and a call on a record takes and answers them so. A buffer may go on
  * after the record; those bytes are ignored by every reader and kept by every
  * writer.
  *
+ * SILENCES. A cart that drops out for a while says nothing of where it is, and a
+ * straight line through a wall would be wrong. A silence is the time strictly
+ * between a fix whose silence byte is 1 and the next fix; these two are its ends,
+ * and belong to the trail. A stretch is what lies between silences: it goes from
+ * the first fix, or one after a silence, to the next fix before a silence, or the
+ * last. Then
+ *   - each stretch is thinned by itself, so that both ends of every silence are
+ *     always kept, each with its byte;
+ *   - no place is given inside a silence: TRAILS_IN_SILENCE;
+ *   - for crossings a silence has its two ends and nothing between them, and a yes
+ *     that it gives has a denominator of 1;
+ *   - what is promised of an aged trail and its original holds at all times
+ *     outside silences, and of the inside of a silence nothing is promised.
+ * A record of kind 1 or 2 has no silence.
+ *
  * REFUSALS. A refusal is one of the numbers below, and 0 is none. A call makes
- * its checks in this order, each over the whole record before the next, and
- * answers the first that fails. A refused call leaves all buffers as they were.
- * The limits are those of the record's kind, or of the kind that is written.
+ * those checks that its description names, in the order in which they stand below,
+ * which isn't that of their numbers: 20 comes directly after 9, and 21 after 12.
+ * Each is made over the whole record before the next, and the first that fails is
+ * the answer. A refused call leaves all buffers as they were. The limits are those
+ * of the record's kind, or of the kind that is written; 20 and 21 turn away
+ * nothing of kinds 1 and 2.
  */
 #ifndef TRAILS_H
 #define TRAILS_H
@@ -51,7 +73,7 @@ extern "C" {
 enum {
     TRAILS_ACCEPTED = 0,         /* not refused */
     TRAILS_FEW_BYTES = 1,        /* fewer than 10 bytes are lent */
-    TRAILS_OTHER_KIND = 2,       /* the kind is neither 1 nor 2 */
+    TRAILS_OTHER_KIND = 2,       /* the kind isn't 1, 2 or 3 */
     TRAILS_BAD_COUNT = 3,        /* no fix, or more than 4,096 */
     TRAILS_BAD_LENGTH = 4,       /* the length field isn't the length of so many fixes */
     TRAILS_SHORT_RECORD = 5,     /* fewer bytes are lent than the length field says */
@@ -59,9 +81,11 @@ enum {
     TRAILS_MISPLACED = 7,        /* an x or a y is beyond its limits */
     TRAILS_UNORDERED = 8,        /* a fix's time isn't later than the time before */
     TRAILS_LONG_SPAN = 9,        /* more than 65,535 seconds from first to last fix */
+    TRAILS_BAD_SILENCE = 20,     /* a silence byte is neither 0 nor 1, or the last fix has 1 */
     TRAILS_HIGH_TOLERANCE = 10,  /* the asked tolerance is above its limit */
     TRAILS_BAD_THOUSANDTHS = 11, /* the asked thousandths are above 999 */
     TRAILS_BAD_MOMENT = 12,      /* the moment is before the first fix or after the last */
+    TRAILS_IN_SILENCE = 21,      /* the moment is strictly inside a silence */
     TRAILS_BAD_WINDOW = 13,      /* it ends before it starts, or not all is in the trail's times */
     TRAILS_BAD_BOX = 14,         /* an edge is beyond its limits, or low above high */
     TRAILS_SHORT_OUTPUT = 15     /* the output has fewer bytes than the record */
@@ -70,6 +94,7 @@ enum {
 /* The kinds. */
 #define TRAILS_CENTIMETRES 1u
 #define TRAILS_MILLIMETRES 2u
+#define TRAILS_SILENCES 3u /* centimetres, with a silence byte after each fix */
 
 /* The mark of a trail that was never thinned. */
 #define TRAILS_NEVER 65535u
@@ -77,13 +102,13 @@ enum {
 /* The most bytes that a record has, of whatever kind. */
 #define TRAILS_LONGEST 49162u
 
-/* The most bytes that a listing has. */
-#define TRAILS_TEXT 126997u
+/* Room for every listing: none has more bytes. */
+#define TRAILS_TEXT 159765u
 
 /* What a record's head says. Where refusal isn't 0, all else is 0. */
 struct trails_head {
     uint32_t refusal;
-    uint32_t kind; /* TRAILS_CENTIMETRES or TRAILS_MILLIMETRES */
+    uint32_t kind; /* TRAILS_CENTIMETRES, TRAILS_MILLIMETRES or TRAILS_SILENCES */
     uint32_t count;
     uint32_t mark;
 };
@@ -97,6 +122,7 @@ struct trails_step {
     uint32_t t;    /* seconds */
     int32_t x;
     int32_t y;
+    uint32_t silence; /* 1 if a silence follows the fix, else 0 */
 };
 
 /* A refusal, or a value. Where refusal isn't 0, value is 0. */
@@ -129,12 +155,12 @@ struct trails_place {
  * earliest time, numerator / denominator seconds after the first fix, with a
  * denominator from 1 to 32,000, or 320,000 of kind 2. The fraction isn't reduced. It
  * is of the first two neighbouring fixes between which the cart is in the box: its
- * denominator is 1 if the former of them or the window's start is just then, else how
- * far, in the record's unit, the cart goes from one to the other in the coordinate
- * that comes to the box last, in x if both come at once. So compare two by their
- * value; but the same trail and window at another time of the clock have the same
- * numerator and denominator. Of a no both are 0, and where refusal isn't 0 all else
- * is. */
+ * denominator is 1 if the former of them or the window's start is just then, or if
+ * there is a silence between them, of which only the two ends count; else how far, in
+ * the record's unit, the cart goes from one to the other in the coordinate that comes
+ * to the box last, in x if both come at once. So compare two by their value; but the
+ * same trail and window at another time of the clock have the same numerator and
+ * denominator. Of a no both are 0, and where refusal isn't 0 all else is. */
 struct trails_crossing {
     uint32_t refusal;
     uint32_t crosses;
@@ -142,24 +168,25 @@ struct trails_crossing {
     uint32_t denominator;
 };
 
-/* Whether the lent bytes begin with a record. Makes checks 1 to 9; where none
- * fails, refusal is 0, and kind, count and mark are the record's. */
+/* Whether the lent bytes begin with a record. Makes checks 1 to 9 and 20; where
+ * none fails, refusal is 0, and kind, count and mark are the record's. */
 struct trails_head trails_check(const uint8_t *record, size_t lent);
 
-/* The fix at a position, counted from 0. Makes checks 1 to 9. Where none fails,
+/* The fix at a position, counted from 0. Makes checks 1 to 9 and 20. Where none fails,
  * positions 0 to count - 1 have a fix, and at each later position none is left.
  * Each call checks the whole record; trails_read_all checks once for all fixes. */
 struct trails_step trails_read(const uint8_t *record, size_t lent, size_t position);
 
-/* Reads all fixes of the record: the inverse of the two writers. Makes checks 1 to
- * 9. Where none fails, value is the record's count, and fix k goes to t[k], x[k] and
- * y[k], in the record's unit, which trails_check tells. Each column, for itself, gets
- * as many as it holds, none if its number is 0, and its later elements are as
- * before. */
+/* Reads all fixes of the record: the inverse of the three writers. Makes checks 1 to
+ * 9 and 20. Where none fails, value is the record's count, and fix k goes to t[k],
+ * x[k] and y[k], in the record's unit, which trails_check tells, and to silence[k],
+ * which is 1 if a silence follows it and else 0. Each column, for itself, gets as many
+ * as it holds, none if its number is 0, and its later elements are as before. */
 struct trails_answer trails_read_all(const uint8_t *record, size_t lent,
                                      uint32_t *t, size_t t_count,
                                      int32_t *x, size_t x_count,
-                                     int32_t *y, size_t y_count);
+                                     int32_t *y, size_t y_count,
+                                     uint8_t *silence, size_t silence_count);
 
 /* Writes the record of a list of fixes in centimetres, marked never thinned: kind 1.
  * Fix k of the list is t[k], x[k], y[k]; the list is as long as the shortest of the
@@ -179,10 +206,21 @@ struct trails_answer trails_write_millimetres(const uint32_t *t, size_t t_count,
                                               const int32_t *y, size_t y_count,
                                               uint8_t *output, size_t output_bytes);
 
+/* Does what trails_write does, of fixes in centimetres with silences: kind 3. silence[k]
+ * is 1 if a silence follows fix k, and 0 if none does; the list is as long as the
+ * shortest of the four columns. Makes checks 3, 7, 8, 9, 20 and 15, in this order. A
+ * record of n fixes needs 10 + 9 * n bytes. */
+struct trails_answer trails_write_silences(const uint32_t *t, size_t t_count,
+                                           const int32_t *x, size_t x_count,
+                                           const int32_t *y, size_t y_count,
+                                           const uint8_t *silence, size_t silence_count,
+                                           uint8_t *output, size_t output_bytes);
+
 /* The listing of the lent bytes, as text for people: "trail", the count and the
- * mark or "never"; a line "fix" with time, x and y for each fix; and "end". Lengths
- * are in the record's unit, which the text doesn't name. Makes checks 1 to 9; where
- * one fails, the text is one line, "refused" and the number.
+ * mark or "never"; a line "fix" with time, x and y for each fix, and "silence" where
+ * one follows; and "end". Lengths are in the record's unit, which the text doesn't
+ * name. Makes checks 1 to 9 and 20; where one fails, the text is one line, "refused"
+ * and the number.
  * Every line ends with a line feed, and nothing follows the last. The answer is
  * the text's length, at most TRAILS_TEXT; the text stands at the output's start,
  * and the output's later bytes are as before. */
@@ -190,45 +228,48 @@ size_t trails_list(const uint8_t *record, size_t lent,
                    uint8_t output[TRAILS_TEXT]);
 
 /* Ages the record by tolerance, in its own unit. A shift's first thinning and
- * each later one are this same call. Makes checks 1 to 10. Where none fails, the
- * record's fixes are thinned at the tolerance by Douglas-Peucker: of a span every
- * inner fix is measured from where the straight line in time between the span's
- * two ends has the cart at that fix's second; where all are at most the tolerance
- * away only the ends stay, and else the span is split at the furthest, the
- * earliest of equals, and both pieces are treated the same. Then
- *   - the kept fixes close up at the record's start, and length and count follow;
+ * each later one are this same call. Makes checks 1 to 9, 20 and 10. Where none
+ * fails, each stretch between silences, of kinds 1 and 2 the whole trail, is thinned
+ * by itself at the tolerance by Douglas-Peucker: of a span every inner fix is
+ * measured from where the straight line in time between the span's two ends has the
+ * cart at that fix's second; where all are at most the tolerance away only the ends
+ * stay, and else the span is split at the furthest, the earliest of equals, and both
+ * pieces are treated the same. Then
+ *   - the kept fixes, with their silence bytes, close up at the record's start, and
+ *     length and count follow; both ends of every silence are among them;
  *   - the mark becomes the tolerance if it was TRAILS_NEVER, and else the greater
  *     of the two, whoever wrote it;
  *   - the kind, and all bytes from the new length on, are as before the call:
  *     fixes that were thinned away may still be among these, so what is stored
  *     of the buffer is to end at the new length;
- *   - value is how many inner fixes were measured, one for each in each span: at
- *     most (count - 1) * (count - 2) / 2 of the count before.
+ *   - value is how many inner fixes were measured, one for each in each span, of all
+ *     stretches together: at most (count - 1) * (count - 2) / 2 of the count before.
  * Where a check fails, no byte is changed.
  * STACK. The call has 4,096 bytes of marks, and calls itself one level deeper for
  * each split in a split, at most 4,095 levels: of a record with count fixes about
- * 5,000 + 176 * count bytes on x86-64, so 730,000 at most. A thread needs some
- * thousands more for itself: one of 733,184 bytes was seen to suffice. */
+ * 5,000 + 192 * count bytes on x86-64, so 792,000 at most. A thread needs some
+ * thousands more for itself: one of 798,720 bytes was seen to suffice. */
 struct trails_answer trails_age(uint8_t *record, size_t lent, uint16_t tolerance);
 
-/* Ages the record by days. Makes checks 1 to 9. Where none fails, it does what
- * trails_age does at the tolerance of this table:
+/* Ages the record by days. Makes checks 1 to 9 and 20. Where none fails, it does
+ * what trails_age does at the tolerance of this table:
  *
- *   days        kind 1     kind 2
+ *   days        kinds 1 and 3    kind 2
  *   0 and 1     none: no byte is changed, and value is 0
- *   2 to 6      10         100
- *   7 to 29     25         250
- *   30 to 89    100        1,000
- *   from 90     400        4,000
+ *   2 to 6      10               100
+ *   7 to 29     25               250
+ *   30 to 89    100              1,000
+ *   from 90     400              4,000
  *
  * Where a check fails, no byte is changed. */
 struct trails_answer trails_age_by_days(uint8_t *record, size_t lent, uint16_t days);
 
 /* Where the cart was at a moment: a second, on the fixes' own clock, and so many
- * thousandths after it. Makes checks 1 to 9, 11 and 12. Where none fails, the
- * leg is the first whose end isn't earlier than the moment, and the place is on
- * the straight line in time between its two fixes: denominator is 1000 * D, with
- * D the leg's seconds, and
+ * thousandths after it. Makes checks 1 to 9, 20, 11, 12 and 21: where the cart was
+ * inside a silence isn't told, and at both its ends it is. Where none fails, the
+ * leg is the first whose end isn't earlier than the moment (at the end of a silence
+ * the silent one), and the place is on the straight line in time between its two
+ * fixes: denominator is 1000 * D, with D the leg's seconds, and
  *   x = x1 * 1000 * D + (x2 - x1) * (1000 * (second - t1) + thousandths)
  * where t1, x1 and x2 are its first fix's time and the two fixes' x; y likewise.
  * The fraction isn't reduced. Of one fix, denominator is 1. */
@@ -238,7 +279,9 @@ struct trails_place trails_place(const uint8_t *record, size_t lent,
 /* Whether the cart was in a box: x from left to right and y from bottom to top,
  * in the record's unit, at some time, fractions of seconds too, from start to end,
  * seconds on the fixes' own clock; edges and both ends are included. Between two
- * fixes the cart is on the straight line in time. Makes checks 1 to 9, 13 and 14. */
+ * fixes the cart is on the straight line in time, unless there is a silence between
+ * them: of that only the two ends count, so that a window strictly inside a silence
+ * has a no. Makes checks 1 to 9, 20, 13 and 14. */
 struct trails_crossing trails_crosses(const uint8_t *record, size_t lent,
                                       uint32_t start, uint32_t end,
                                       int32_t left, int32_t right,
@@ -246,7 +289,7 @@ struct trails_crossing trails_crosses(const uint8_t *record, size_t lent,
 
 /* Makes all agings of a list, one after the other. A call below 65,536 is
  * trails_age at that tolerance, and one from there on is trails_age_by_days at
- * call % 65,536 days. Makes checks 1 to 9. Where none fails, each byte afterwards
+ * call % 65,536 days. Makes checks 1 to 9 and 20. Where none fails, each byte afterwards
  * is what these calls give one by one: those whose tolerance is above the kind's
  * limit are turned away and change nothing, and the calls after them are made.
  * turned_away is how many they were. STACK: as trails_age. */
@@ -254,18 +297,22 @@ struct trails_run trails_run(uint8_t *record, size_t lent,
                              const uint32_t *calls, size_t call_count);
 
 /* Makes all agings of a list, and then asks the crossing of what is left. Makes
- * checks 1 to 9, 13 and 14, before any aging: thinning keeps the first fix and the
- * last, so afterwards they would say the same. Where none fails, each byte is what
- * trails_run leaves, and the answer is what trails_crosses then gives. STACK: as
+ * checks 1 to 9, 20, 13 and 14, before any aging: thinning keeps the first fix and
+ * the last, so afterwards they would say the same. Where none fails, each byte is
+ * what trails_run leaves, and the answer is what trails_crosses then gives. STACK: as
  * trails_age.
  * Of a record marked TRAILS_NEVER, the original, let E be the greatest tolerance
  * applied, or 0 if none was. Then the fixes left are those that thinning the
- * original once at E keeps, or all where none was applied; and
- *   - at every time from the first fix to the last, fractions of seconds too, the
- *     trail left is at most E from the original;
- *   - a yes means that at its time the original is at most E from the box;
- *   - a no means that whenever the original is in the box within the window, its
- *     x is at most E from left or right, or its y from bottom or top. */
+ * original once at E keeps, or all where none was applied; the silences left are the
+ * original's, with the same ends; and
+ *   - at every time from the first fix to the last that isn't inside a silence,
+ *     fractions of seconds too, the trail left is at most E from the original;
+ *   - a yes means that at its time, which isn't inside a silence, the original is at
+ *     most E from the box;
+ *   - a no means that whenever the original is in the box within the window, and not
+ *     inside a silence, its x is at most E from left or right, or its y from bottom
+ *     or top.
+ * Where the cart went inside a silence nobody knows, and nothing is promised of it. */
 struct trails_crossing trails_crosses_after(uint8_t *record, size_t lent,
                                             const uint32_t *calls, size_t call_count,
                                             uint32_t start, uint32_t end,

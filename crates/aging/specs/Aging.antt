@@ -21,7 +21,7 @@ thinned-record b e =
     let kept = thinned e (fixes b) in
     record-bytes (kind-of b) (new-mark (mark-field b) e) kept ++ drop (record-length (kind-of b) (length kept)) b
 
--- ---- by tolerance: "Aging makes checks 1 to 10". What the call does not take decides nothing (`aging-alone` of the record's Laws/First.antt).
+-- ---- by tolerance: "Aging makes checks 1 to 10", and 20 after 9. What the call does not take decides nothing (`aging-alone` of the record's Laws/First.antt).
 abbrev pub with-tolerance : ℕ → Given
 with-tolerance e = record {
   tolerance = e;
@@ -73,7 +73,7 @@ in-unit K (some row) = some (min (K .top) (K .per-centimetre * row))
 abbrev pub days-apply : Kind → ℕ → Option ℕ
 days-apply K days = in-unit K (days-give days)
 
--- "aging by days 1 to 9"
+-- "aging by days 1 to 9", and 20
 abbrev pub days-refusal : List ℕ → Option ℕ
 days-refusal b = refusal-of aging-by-days b nothing
 

@@ -1,5 +1,5 @@
--- THE AGINGS IN NUMBERS. Days and bytes, written out, and what document 01 and document 02's item 8 say of them: the definitions and the code cannot be changed
--- together without these rows. Each line is computed.
+-- THE AGINGS IN NUMBERS. Days and bytes, written out, and what document 01 and document 02's items 5 and 8 say of them: the definitions and the code cannot be
+-- changed together without these rows. Each line is computed.
 use mathlib.Core.Path.{_≡_, refl}
 use mathlib.Core.Bool.{Bool, true, false}
 use mathlib.Core.List.{List, [], _∷_, _++_}
@@ -17,14 +17,14 @@ use Rattle.format.specs.Kinds.{Kind, trail, millimetre-trail}
 use Rattle.format.specs.Format.{kind-of, fixes, fix-from, fix-at, each, fix-to, fix-bytes, all-bytes, header-bytes, record-bytes}
 use Rattle.format.specs.Examples.{document-bytes}
 use Rattle.format.specs.Laws.RoundTrip.{all-below, computed-bytes}
-use Rattle.record.specs.Checks.{sentence, first, some-outside, some-early-after, some-early, of-ends}
+use Rattle.record.specs.Checks.{sentence, first, some-outside, some-other-silence, some-early-after, some-early, of-ends}
 use Rattle.record.specs.Answers.{Answer, gives, turns-away}
 use Rattle.record.specs.Examples.{read-rows, on-refused, MovableRow, movable-rows}
 use Rattle.record.specs.Moved.{moved-record}
 use Rattle.record.specs.Tenfold.{tenfold-record, Tenfold}
 use Rattle.record.specs.Laws.Tenfold.{tenfold-never, tenfold-bytes}
 use Rattle.thinning.specs.Marks.{kept-by}
-use Rattle.thinning.specs.Thinning.{sooner, furthest, every, but-last, thin-span, thin, thinning}
+use Rattle.thinning.specs.Thinning.{sooner, furthest, every, but-last, thin-span, thin, joined, stretches, thin-each, thinning}
 use Rattle.aging.specs.Aging.{new-mark, thinned-record, last-row, days-give, in-unit, Call, by-tolerance, by-days, left-by, answered}
 use Rattle.aging.specs.Tenfold.{TenfoldCall, at-ten-times, by-same-days, both-too-high}
 use Rattle.aging.specs.Laws.Moved.{AgedAlike, aged-moved}
@@ -63,7 +63,7 @@ marked low high = 18 ∷ 0 ∷ 0 ∷ 0 ∷ 1 ∷ 0 ∷ low ∷ high ∷ 1 ∷ 0 
 
 abbrev pub call-rows : List CallRow
 call-rows =
-    -- what the reader refuses both agings refuse, 1 to 9, and before 10
+    -- what the reader refuses both agings refuse, 1 to 9 and 20, and before 10
     on-refused (refuses (by-tolerance 0)) read-rows
     ++ on-refused (refuses (by-days 7)) read-rows
     ++ on-refused (refuses (by-tolerance 32001)) read-rows
@@ -79,7 +79,7 @@ call-rows =
     ∷ []
 
 pub calls-computed : Computes (λ (p : List ℕ × Call). (answered (p .0) (p .1), left-by (p .0) (p .1))) call-rows
-unfolding thinned-record new-mark last-row thinning thin thin-span furthest sooner every but-last last-of deviation allowance first sentence some-outside some-early-after some-early of-ends kind-of fix-from fix-at each number-at signed unsigned bytes-of fix-to fix-bytes all-bytes header-bytes record-bytes
+unfolding thinned-record new-mark last-row thinning thin-each stretches joined thin thin-span furthest sooner every but-last last-of deviation allowance first sentence some-outside some-other-silence some-early-after some-early of-ends kind-of fix-from fix-at each number-at signed unsigned bytes-of fix-to fix-bytes all-bytes header-bytes record-bytes
 calls-computed = refl
 
 -- ---- kind 2, by its own limits, in millimetres: one fix, under a mark of these two bytes
@@ -98,8 +98,55 @@ millimetre-call-rows =
     ∷ []
 
 pub millimetre-calls-computed : Computes (λ (p : List ℕ × Call). (answered (p .0) (p .1), left-by (p .0) (p .1))) millimetre-call-rows
-unfolding thinned-record new-mark last-row thinning thin thin-span furthest sooner every but-last last-of deviation allowance first sentence some-outside some-early-after some-early of-ends kind-of fix-from fix-at each number-at signed unsigned bytes-of fix-to fix-bytes all-bytes header-bytes record-bytes
+unfolding thinned-record new-mark last-row thinning thin-each stretches joined thin thin-span furthest sooner every but-last last-of deviation allowance first sentence some-outside some-other-silence some-early-after some-early of-ends kind-of fix-from fix-at each number-at signed unsigned bytes-of fix-to fix-bytes all-bytes header-bytes record-bytes
 millimetre-calls-computed = refl
+
+-- ---- kind 3: six fixes, at x 0, 5, 10 with silence after it, 100, 110 and 120. "each stretch between silences is thinned by itself, the counts added": of either
+-- stretch its two ends stay, at any tolerance, each with its byte, and one inner fix is measured in each; as one stretch the trail would keep its two ends alone at
+-- tolerance 1,000. What follows the new length is as before.
+abbrev pub parted-trail : List ℕ
+parted-trail =
+    64 ∷ 0 ∷ 0 ∷ 0 ∷ 3 ∷ 0 ∷ 255 ∷ 255 ∷ 6 ∷ 0
+    ∷ 0 ∷ 0 ∷ 0 ∷ 0 ∷ 0 ∷ 0 ∷ 0 ∷ 0 ∷ 0
+    ∷ 10 ∷ 0 ∷ 0 ∷ 0 ∷ 5 ∷ 0 ∷ 0 ∷ 0 ∷ 0
+    ∷ 20 ∷ 0 ∷ 0 ∷ 0 ∷ 10 ∷ 0 ∷ 0 ∷ 0 ∷ 1
+    ∷ 30 ∷ 0 ∷ 0 ∷ 0 ∷ 100 ∷ 0 ∷ 0 ∷ 0 ∷ 0
+    ∷ 40 ∷ 0 ∷ 0 ∷ 0 ∷ 110 ∷ 0 ∷ 0 ∷ 0 ∷ 0
+    ∷ 50 ∷ 0 ∷ 0 ∷ 0 ∷ 120 ∷ 0 ∷ 0 ∷ 0 ∷ 0
+    ∷ []
+
+abbrev pub parted-aged : (low high : ℕ) → List ℕ
+parted-aged low high =
+    46 ∷ 0 ∷ 0 ∷ 0 ∷ 3 ∷ 0 ∷ low ∷ high ∷ 4 ∷ 0
+    ∷ 0 ∷ 0 ∷ 0 ∷ 0 ∷ 0 ∷ 0 ∷ 0 ∷ 0 ∷ 0
+    ∷ 20 ∷ 0 ∷ 0 ∷ 0 ∷ 10 ∷ 0 ∷ 0 ∷ 0 ∷ 1
+    ∷ 30 ∷ 0 ∷ 0 ∷ 0 ∷ 100 ∷ 0 ∷ 0 ∷ 0 ∷ 0
+    ∷ 50 ∷ 0 ∷ 0 ∷ 0 ∷ 120 ∷ 0 ∷ 0 ∷ 0 ∷ 0
+    ∷ 40 ∷ 0 ∷ 0 ∷ 0 ∷ 110 ∷ 0 ∷ 0 ∷ 0 ∷ 0
+    ∷ 50 ∷ 0 ∷ 0 ∷ 0 ∷ 120 ∷ 0 ∷ 0 ∷ 0 ∷ 0
+    ∷ []
+
+-- Three fixes with silence after each but the last, under a mark of these two bytes: all stay.
+abbrev pub all-silent : (low high : ℕ) → List ℕ
+all-silent low high =
+    37 ∷ 0 ∷ 0 ∷ 0 ∷ 3 ∷ 0 ∷ low ∷ high ∷ 3 ∷ 0
+    ∷ 0 ∷ 0 ∷ 0 ∷ 0 ∷ 0 ∷ 0 ∷ 0 ∷ 0 ∷ 1
+    ∷ 10 ∷ 0 ∷ 0 ∷ 0 ∷ 5 ∷ 0 ∷ 0 ∷ 0 ∷ 1
+    ∷ 20 ∷ 0 ∷ 0 ∷ 0 ∷ 10 ∷ 0 ∷ 0 ∷ 0 ∷ 0
+    ∷ []
+
+abbrev pub silent-call-rows : List CallRow
+silent-call-rows =
+    ((parted-trail, by-tolerance 0), (gives 2, parted-aged 0 0))
+    ∷ ((parted-trail, by-tolerance 1000), (gives 2, parted-aged 232 3))
+    ∷ ((parted-trail, by-days 7), (gives 2, parted-aged 25 0))
+    ∷ ((all-silent 255 255, by-tolerance 32000), (gives 0, all-silent 0 125))
+    ∷ refuses (by-tolerance 32001) (all-silent 255 255) 10
+    ∷ []
+
+pub silent-calls-computed : Computes (λ (p : List ℕ × Call). (answered (p .0) (p .1), left-by (p .0) (p .1))) silent-call-rows
+unfolding thinned-record new-mark last-row thinning thin-each stretches joined thin thin-span furthest sooner every but-last last-of deviation allowance first sentence some-outside some-other-silence some-early-after some-early of-ends kind-of fix-from fix-at each number-at signed unsigned bytes-of fix-to fix-bytes all-bytes header-bytes record-bytes
+silent-calls-computed = refl
 
 -- "the lesser of 60,000 and ten times the row": the built-in rows are below it, and a row of 6,001 centimetres is not
 pub units-computed : Computes (λ (p : Kind × ℕ). in-unit (p .0) (some (p .1))) (((trail, 400), some 400) ∷ ((millimetre-trail, 400), some 4000) ∷ ((millimetre-trail, 6000), some 60000) ∷ ((millimetre-trail, 6001), some 60000) ∷ ((millimetre-trail, 32000), some 60000) ∷ [])
@@ -123,7 +170,7 @@ abbrev pub ends-marked : List Bool
 ends-marked = true ∷ false ∷ true ∷ []
 
 pub straight-kept : fixes (left-by straight (by-tolerance 0)) ≡ kept-by ends-marked 0 (fixes straight)
-unfolding kept-by thinned-record new-mark thinning thin thin-span furthest sooner every but-last last-of deviation allowance first sentence some-outside some-early-after some-early of-ends kind-of fix-from fix-at each number-at signed unsigned bytes-of fix-to fix-bytes all-bytes header-bytes record-bytes
+unfolding kept-by thinned-record new-mark thinning thin-each stretches joined thin thin-span furthest sooner every but-last last-of deviation allowance first sentence some-outside some-other-silence some-early-after some-early of-ends kind-of fix-from fix-at each number-at signed unsigned bytes-of fix-to fix-bytes all-bytes header-bytes record-bytes
 straight-kept = refl
 
 -- .. and the same positions of the trail moved to the last second of 32 bits.
@@ -140,7 +187,7 @@ straight-moved = straight-alike .same-positions refl ends-marked straight-kept
 
 -- ---- CENTIMETRES AND MILLIMETRES: the straight trail in both units, ..
 straight-tenfold : Tenfold straight (tenfold-record straight)
-unfolding kind-of all-below first sentence some-outside some-early-after some-early last-of of-ends fix-from fix-at each number-at signed
+unfolding kind-of all-below first sentence some-outside some-other-silence some-early-after some-early last-of of-ends fix-from fix-at each number-at signed
 straight-tenfold = tenfold-never straight (computed-bytes straight refl) (record { accepted = refl }) refl refl
 
 straight-aged : {q r : Call} → TenfoldCall q r → AgedTenfold straight (tenfold-record straight) q r

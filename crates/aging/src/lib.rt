@@ -64,7 +64,7 @@ pub enum Aged {
     Refused(u8),
 }
 
-// Aging's checks 1 to 10.
+// Aging's checks: 1 to 9, 20 and 10.
 fn age_says(b: &[u8], e: Tolerance) -> Checked
     ensures { λ r. ⌜ refused r ≡ age-refusal (now (b .entry)) (e .0) ⌝ }
 {

@@ -2,12 +2,15 @@
 -- clock), both ends included. Yes exactly if at some fractional time of the window the interpolated place is in the box. Yes carries the earliest such
 -- time, in seconds after the first fix, as a fraction. Its value is fixed; its form is free, with a denominator from 1 to 32,000. No carries nothing." Document 02,
 -- item 8: "Boxes [..] are in the record's unit. [..] a crossing fraction's denominator may reach 320,000", for kind 2: twice the limit of its places, as for kind 1.
+-- Item 5: "For crossings [..] only the two ends of a silent leg count."
 use mathlib.Core.Path.{_≡_}
+use mathlib.Core.Bool.{cond}
 use mathlib.Core.List.{List, [], _∷_}
 use mathlib.Core.Option.{Option, some, none}
 use Prim.Native.Nat.{ℕ, _+_, _*_, _≤_, _-_}
 use Rattle.distance.specs.Fix.{Fix}
 use Rattle.distance.specs.Place.{Time, From, Until, place}
+use Rattle.distance.specs.Silence.{silent, OutsideSilences}
 use Rattle.distance.specs.Box.{Box, In}
 use Rattle.format.specs.Kinds.{Kind}
 use Rattle.format.specs.Format.{kind-of, fixes}
@@ -18,10 +21,11 @@ use Rattle.legs.specs.Legs.{raised, framed, leg-first}
 use Rattle.legs.specs.declared.Frame.{Frame}
 
 -- ---- what the question means
--- The fractional time u is of the window from s to e, and the trail's place then is in the box.
+-- The fractional time u is of the window from s to e and outside silences, whose ends are outside, and the trail's place then is in the box.
 pub record Crosses (l : List Fix) (box : Box) (s e : ℕ) (u : Time) : Type 0 where
   pub opened : From s u
   pub closed : Until e u
+  pub heard : OutsideSilences l u
   pub inside : In box (place l u)
 
 abbrev pub first-time : List Fix → ℕ
@@ -62,14 +66,18 @@ SameCrossing K (some f) (some g) = SameTime K f g
 SameCrossing K none (some g) = ⊥
 SameCrossing K (some f) none = ⊥
 
--- ---- the same computed: the first leg that crosses. The last fix, or a lone one, is a leg of no seconds from itself to itself.
+-- ---- the same computed: the first leg that crosses. The last fix, or a lone one, is a leg of no seconds from itself to itself, and so is what counts of a
+-- silent leg before its end, with which the next leg begins.
+abbrev pub followed : Fix → Fix → Fix
+followed a b = cond (silent a) a b
+
 abbrev pub or-else : Option Fraction → Option Fraction → Option Fraction
 or-else (some f) r = some f
 or-else none r = r
 
 unfoldable pub first-from : (first : ℕ) → Fix → List Fix → Frame → (w v : ℕ) → Option Fraction
 first-from first a [] f w v = leg-first (raised first a) (raised first a) f w v
-first-from first a (b ∷ l) f w v = or-else (leg-first (raised first a) (raised first b) f w v) (first-from first b l f w v)
+first-from first a (b ∷ l) f w v = or-else (leg-first (raised first a) (raised first (followed a b)) f w v) (first-from first b l f w v)
 
 -- The first crossing of a trail, in seconds after its first fix. (`crossing-means` of Laws/Crossing.antt: it means what is said above.) Check 13 has seen to
 -- it that the window doesn't begin before the first fix, so that no second less the first fix's is cut off at 0.
@@ -89,12 +97,12 @@ asked-crossing s e box = record {
   output = nothing .output;
 }
 
--- On lent bytes: "the crossing 1 to 9, 13, 14".
+-- On lent bytes: "the crossing 1 to 9, 13, 14", and 20 after 9.
 abbrev pub cross-refusal : List ℕ → (s e : ℕ) → Box → Option ℕ
 cross-refusal b s e box = refusal-of crossing b (asked-crossing s e box)
 
--- It names the form of the fraction, as document 02's item 4 asks: the one that `first-crossing` computes of the first leg that crosses, and `Means` is what it means.
--- It isn't reduced: over how far this leg goes in x, or in y, if that coordinate comes to the box just then, and over 1 if the leg or the window begins
+-- It names the form of the fraction, as document 02's item 4 asks: the one that `first-crossing` computes of the first leg that crosses, and `Means` is what it
+-- means. It isn't reduced: over how far this leg goes in x, or in y, if that coordinate comes to the box just then, and over 1 if the leg or the window begins
 -- just then; of equal times the first of leg, window, x and y. It is the same whatever the clock says (`cross-answer-moved` of Laws/Moved.antt).
 abbrev pub cross-answer : List ℕ → (s e : ℕ) → Box → Answer (Option Fraction)
 cross-answer b s e box = answer (cross-refusal b s e box) (first-crossing (fixes b) box s e)

@@ -1,4 +1,4 @@
--- THE CROSSING IN NUMBERS. Bytes, windows and boxes, written out, and what document 01 and document 02's items 4 and 8 say of them: the definitions and the code
+-- THE CROSSING IN NUMBERS. Bytes, windows and boxes, written out, and what document 01 and document 02's items 4, 5 and 8 say of them: the definitions and the code
 -- cannot be changed together without these rows. Each line is computed.
 use mathlib.Core.Path.{_≡_, refl}
 use mathlib.Core.List.{List, [], _∷_}
@@ -15,7 +15,7 @@ use Rattle.format.specs.Bytes.{number-at, bytes-of, signed, unsigned}
 use Rattle.format.specs.Kinds.{trail, millimetre-trail}
 use Rattle.format.specs.Format.{kind-of, fix-at, fix-from, each, fix-to, fix-bytes, all-bytes, header-bytes, record-bytes, changed}
 use Rattle.format.specs.Laws.RoundTrip.{all-below, computed-bytes}
-use Rattle.record.specs.Checks.{sentence, first, some-outside, some-early-after, some-early, of-ends}
+use Rattle.record.specs.Checks.{sentence, first, some-outside, some-other-silence, some-early-after, some-early, of-ends}
 use Rattle.record.specs.Answers.{Answer, gives, turns-away, SameAnswer}
 use Rattle.record.specs.Moved.{moved-record}
 use Rattle.record.specs.Tenfold.{tenfold-mark, tenfold-record}
@@ -63,7 +63,7 @@ cross-rows =
     ∷ []
 
 pub crossings-computed : Computes (λ (q : ℕ × ℕ × Box). cross-answer cross-trail (q .0) (q .1) (q .2)) cross-rows
-unfolding first sentence some-outside some-early-after some-early last-of of-ends kind-of fix-at fix-from each number-at signed first-crossing first-from leg-first leg-times axis-times first-of later-of earlier-of
+unfolding first sentence some-outside some-other-silence some-early-after some-early last-of of-ends kind-of fix-at fix-from each number-at signed first-crossing first-from leg-first leg-times axis-times first-of later-of earlier-of
 crossings-computed = refl
 
 -- ---- THE FRACTION'S FORM, of the trail (1000,0,0) (1010,100,50) (1020,200,0)
@@ -90,7 +90,7 @@ form-rows =
     ∷ []
 
 pub forms-computed : Computes (λ (q : ℕ × ℕ × Box). cross-answer bent-trail (q .0) (q .1) (q .2)) form-rows
-unfolding first sentence some-outside some-early-after some-early last-of of-ends kind-of fix-at fix-from each number-at signed first-crossing first-from leg-first leg-times axis-times first-of later-of earlier-of
+unfolding first sentence some-outside some-other-silence some-early-after some-early last-of of-ends kind-of fix-at fix-from each number-at signed first-crossing first-from leg-first leg-times axis-times first-of later-of earlier-of
 forms-computed = refl
 
 -- ---- MILLIMETRES: the trails (1000,−160000,0) (1010,160000,0) and (0,−160000,0) (65535,160000,0) of kind 2
@@ -116,8 +116,47 @@ millimetre-crossings =
 pub millimetre-crossings-computed : Computes (λ (q : ℕ × ℕ × Box). cross-answer across-trail (q .0) (q .1) (q .2)) millimetre-crossings
     -- the greatest numerator
     × (cross-answer longest-trail 0 65535 (box-with (pos 160000) (pos 160000) (pos 0) (pos 0)) ≡ yes-at 20971200000 320000)
-unfolding first sentence some-outside some-early-after some-early last-of of-ends kind-of fix-at fix-from each number-at signed first-crossing first-from leg-first leg-times axis-times first-of later-of earlier-of
+unfolding first sentence some-outside some-other-silence some-early-after some-early last-of of-ends kind-of fix-at fix-from each number-at signed first-crossing first-from leg-first leg-times axis-times first-of later-of earlier-of
 millimetre-crossings-computed = (refl, refl)
+
+-- ---- SILENCE: a trail of kind 3, (1000,0,0) with silence after it, (1010,100,0), (1020,100,100) with silence after it, and (1030,0,100). Only the two ends of a
+-- silent leg count, over 1; a window strictly inside a silence is no; and the earliest is the earliest of the whole trail.
+abbrev pub parted-trail : List ℕ
+parted-trail =
+    46 ∷ 0 ∷ 0 ∷ 0 ∷ 3 ∷ 0 ∷ 255 ∷ 255 ∷ 4 ∷ 0
+    ∷ 232 ∷ 3 ∷ 0 ∷ 0 ∷ 0 ∷ 0 ∷ 0 ∷ 0 ∷ 1
+    ∷ 242 ∷ 3 ∷ 0 ∷ 0 ∷ 100 ∷ 0 ∷ 0 ∷ 0 ∷ 0
+    ∷ 252 ∷ 3 ∷ 0 ∷ 0 ∷ 100 ∷ 0 ∷ 100 ∷ 0 ∷ 1
+    ∷ 6 ∷ 4 ∷ 0 ∷ 0 ∷ 0 ∷ 0 ∷ 100 ∷ 0 ∷ 0
+    ∷ []
+
+abbrev pub hall : Box
+hall = box-with (minus 16000) (pos 16000) (minus 16000) (pos 16000)
+
+abbrev pub silent-crossings : List ((ℕ × ℕ × Box) × Answer (Option Fraction))
+silent-crossings =
+    -- the middle of either silence, and its two ends
+    ((1000, 1030, box-with (pos 33) (pos 40) (minus 5) (pos 5)), gives none)
+    ∷ ((1000, 1030, box-with (pos 33) (pos 40) (pos 95) (pos 105)), gives none)
+    ∷ ((1000, 1030, box-with (pos 0) (pos 40) (minus 5) (pos 5)), yes-at 0 1)
+    ∷ ((1000, 1030, box-with (pos 33) (pos 100) (minus 5) (pos 5)), yes-at 10 1)
+    ∷ ((1000, 1030, box-with (pos 33) (pos 100) (pos 95) (pos 105)), yes-at 1950 100)
+    ∷ ((1000, 1030, box-with (pos 0) (pos 40) (pos 95) (pos 105)), yes-at 30 1)
+    -- windows from one end of a silence to the other, strictly inside it, and at each end
+    ∷ ((1000, 1010, hall), yes-at 0 1)
+    ∷ ((1001, 1010, hall), yes-at 10 1)
+    ∷ ((1001, 1009, hall), gives none)
+    ∷ ((1005, 1005, hall), gives none)
+    ∷ ((1020, 1020, hall), yes-at 20 1)
+    ∷ ((1021, 1029, hall), gives none)
+    ∷ ((1021, 1030, hall), yes-at 30 1)
+    -- the leg between them, as of any trail
+    ∷ ((1000, 1030, box-with (pos 90) (pos 110) (pos 50) (pos 60)), yes-at 1500 100)
+    ∷ []
+
+pub silent-crossings-computed : Computes (λ (q : ℕ × ℕ × Box). cross-answer parted-trail (q .0) (q .1) (q .2)) silent-crossings
+unfolding first sentence some-outside some-other-silence some-early-after some-early last-of of-ends kind-of fix-at fix-from each number-at signed first-crossing first-from leg-first leg-times axis-times first-of later-of earlier-of
+silent-crossings-computed = refl
 
 -- "a denominator from 1 to 32,000", and of kind 2 up to 320,000: what yes promises of it
 pub denominators-told : {l : List Fix} {box : Box} {s e n d : ℕ}
@@ -138,7 +177,7 @@ moved-computed = refl
 
 pub crossings-moved : Computes (λ (q : ℕ × ℕ × Box). cross-answer latest-trail (moved (pos 4294966285) (q .0)) (moved (pos 4294966285) (q .1)) (q .2)) cross-rows
     × Computes (λ (q : ℕ × ℕ × Box). cross-answer early-trail (moved (minus 999) (q .0)) (moved (minus 999) (q .1)) (q .2)) cross-rows
-unfolding first sentence some-outside some-early-after some-early last-of of-ends kind-of fix-at fix-from each number-at signed first-crossing first-from leg-first leg-times axis-times first-of later-of earlier-of
+unfolding first sentence some-outside some-other-silence some-early-after some-early last-of of-ends kind-of fix-at fix-from each number-at signed first-crossing first-from leg-first leg-times axis-times first-of later-of earlier-of
 crossings-moved = (refl, refl)
 
 -- the law of a moved clock, of bytes that are accepted and of refused ones
@@ -156,15 +195,15 @@ pub tenfold-crossings : Computes (λ (q : ℕ × ℕ × Box). cross-answer (tenf
     ∷ ((1000, 1010, box-with (pos 33) (pos 40) (minus 5) (pos 16001)), turns-away 14)
     ∷ ((1000, 1010, box-with (pos 34) (pos 33) (pos 0) (pos 0)), turns-away 14)
     ∷ [])
-unfolding tenfold-record tenfold-mark header-bytes record-bytes all-bytes fix-bytes fix-to bytes-of unsigned first sentence some-outside some-early-after some-early last-of of-ends kind-of fix-at fix-from each number-at signed first-crossing first-from leg-first leg-times axis-times first-of later-of earlier-of
+unfolding tenfold-record tenfold-mark header-bytes record-bytes all-bytes fix-bytes fix-to bytes-of unsigned first sentence some-outside some-other-silence some-early-after some-early last-of of-ends kind-of fix-at fix-from each number-at signed first-crossing first-from leg-first leg-times axis-times first-of later-of earlier-of
 tenfold-crossings = refl
 
 -- the law of it, for every window and box
 pub crossed-in-millimetres : (s e : ℕ) (box : Box) → SameAnswer (SameCrossing millimetre-trail) (cross-answer (tenfold-record cross-trail) s e (tenfold-box box)) (cross-answer cross-trail s e box)
-unfolding kind-of all-below first sentence some-outside some-early-after some-early last-of of-ends fix-from fix-at each number-at signed
+unfolding kind-of all-below first sentence some-outside some-other-silence some-early-after some-early last-of of-ends fix-from fix-at each number-at signed
 crossed-in-millimetres s e box = cross-answer-tenfold (tenfold-never cross-trail (computed-bytes cross-trail refl) (record { accepted = refl }) refl refl) s e box
 
--- What the reader refuses the crossing refuses, 1 to 9, and before 13.
+-- What the reader refuses the crossing refuses, 1 to 9 and 20, and before 13.
 pub cross-refusals : Computes (λ (b : List ℕ). cross-answer b 1 0 asked-box) (on-refused (λ b k. (b, turns-away k)) read-rows)
-unfolding first sentence some-outside some-early-after some-early last-of of-ends kind-of fix-at fix-from each number-at signed
+unfolding first sentence some-outside some-other-silence some-early-after some-early last-of of-ends kind-of fix-at fix-from each number-at signed
 cross-refusals = refl

@@ -16,11 +16,13 @@ use legs::raise;
 use record::Checked;
 use record::outside;
 ghost use mathlib.Core.Path.{_≡_};
+ghost use mathlib.Core.Bool.{cond};
 ghost use Prim.Native.Nat.{suc, _≤_};
 ghost use lib.Signed.{ltZ};
 ghost use mathlib.Core.Option.{none};
 ghost use Rattle.record.specs.Answers.{gives, refused};
 ghost use lib.ListN.{length};
+ghost use Rattle.distance.specs.Silence.{silent};
 ghost use Rattle.format.specs.Kinds.{layout};
 ghost use Rattle.format.specs.Format.{kind-of, record-length, fix-at};
 ghost use Rattle.record.specs.Checks.{IsAccepted};
@@ -86,6 +88,21 @@ fn raised_at(b: &[u8], kind: Kind, k: usize) -> Raised
 
 // ---- the trail
 
+// Whether a silence follows the fix at a position.
+fn silent_at(b: &[u8], kind: Kind, k: usize) -> bool
+    requires { ⌜ record-length (layout kind) (suc k) ≤ length (now b) ⌝ }
+    ensures { λ r. ⌜ r ≡ silent (fix-at (layout kind) (now (b .entry)) k) ⌝ }
+{
+    distance::silent(format::fix_at(b, kind, k))
+}
+
+// How far the leg from a to z is followed: to its end, and of a silent one no further than its start. Its end is where the next leg begins.
+fn followed(silent: bool, a: Raised, z: Raised) -> Raised
+    ensures { λ r. ⌜ r ≡ cond silent a z ⌝ }
+{
+    if silent { a } else { z }
+}
+
 // The first leg that crosses gives the answer.
 fn first_crossing(
     b: &[u8],
@@ -102,7 +119,8 @@ fn first_crossing(
     let mut k = 1;
     while k < n {
         let z = raised_at(b, kind, k);
-        let r = leg_first(a, z, f, opens, closes);
+        let end = followed(silent_at(b, kind, k - 1), a, z);
+        let r = leg_first(a, end, f, opens, closes);
         if let Meeting::At(x) = r {
             return Meeting::At(x);
         }
@@ -168,7 +186,7 @@ fn question_says(b: &[u8], kind: Kind, w: Window, e: Edges) -> Checked
     Checked::Accepted
 }
 
-// The crossing's checks: 1 to 9, 13 and 14.
+// The crossing's checks: 1 to 9, 20, 13 and 14.
 pub fn cross_says(b: &[u8], w: Window, e: Edges) -> Checked
     ensures { λ r. ⌜ refused r ≡ cross-refusal (now (b .entry)) (w .start .0) (w .end .0) (boxOf e) ⌝ }
 {

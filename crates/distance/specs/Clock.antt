@@ -19,4 +19,4 @@ pub record Stays (s : ℤ) (t : ℕ) : Type 0 where
 
 -- A fix at the same place s seconds later.
 abbrev pub moved-fix : ℤ → Fix → Fix
-moved-fix s a = record { t = moved s (a .t); x = a .x; y = a .y }
+moved-fix s a = record { t = moved s (a .t); x = a .x; y = a .y; silence = a .silence }

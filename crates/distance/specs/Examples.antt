@@ -73,14 +73,14 @@ pub clock-ends : Stays (pos 4294967295) 0 × Stays (minus 4294967295) 4294967295
 clock-ends = (computed-stays (pos 4294967295) 0 tt tt, computed-stays (minus 4294967295) 4294967295 tt tt)
 
 -- ---- centimetres and millimetres: a fix, a place over 3, and a box, each in the one unit and in the other
-pub tenfold-computed : (tenfold-fix (record { t = 1000; x = minus 16000; y = pos 7 }) ≡ record { t = 1000; x = minus 160000; y = pos 70 })
+pub tenfold-computed : (tenfold-fix (record { t = 1000; x = minus 16000; y = pos 7; silence = 1 }) ≡ record { t = 1000; x = minus 160000; y = pos 70; silence = 1 })
     × (tenfold-place (record { x = pos 5; y = minus 1; d = pos 3 }) ≡ record { x = pos 50; y = minus 10; d = pos 3 })
     × (tenfold-box (box-with (minus 1) (pos 2) (minus 3) (pos 16000)) ≡ box-with (minus 10) (pos 20) (minus 30) (pos 160000))
 tenfold-computed = (refl, refl, refl)
 
 -- document 01's trail c, (0,0,0) (10,30,40) (20,0,0): its inner fix is 50 centimetres off, and 500 millimetres. Nx² + Ny² and e²·D² are a hundred times as much.
 abbrev off-by : (t x y : ℕ) → Fix
-off-by t x y = record { t = t; x = pos x; y = pos y }
+off-by t x y = record { t = t; x = pos x; y = pos y; silence = 0 }
 
 pub tenfold-measured : deviation (off-by 0 0 0) (off-by 10 30 40) (off-by 20 0 0) ∷ allowance 50 (off-by 0 0 0) (off-by 20 0 0)
     ∷ deviation (tenfold-fix (off-by 0 0 0)) (tenfold-fix (off-by 10 30 40)) (tenfold-fix (off-by 20 0 0)) ∷ allowance 500 (tenfold-fix (off-by 0 0 0)) (tenfold-fix (off-by 20 0 0)) ∷ []
@@ -90,10 +90,10 @@ tenfold-measured = refl
 
 -- ---- Nx² + Ny² and its words
 abbrev corner : ℕ → ℕ → Fix
-corner t limit = record { t = t; x = pos limit; y = pos limit }
+corner t limit = record { t = t; x = pos limit; y = pos limit; silence = 0 }
 
 abbrev opposite-corner : ℕ → ℕ → Fix
-opposite-corner t limit = record { t = t; x = minus limit; y = minus limit }
+opposite-corner t limit = record { t = t; x = minus limit; y = minus limit; silence = 0 }
 
 -- Of a place limit and a span's seconds: a cart that stands in one corner of the hall and is once in the opposite one, as far from its chord as a fix can be. At
 -- document 01's limit the sum is below 2⁶³; at item 8's it needs two words, but not in spans of 9,490 seconds and less.

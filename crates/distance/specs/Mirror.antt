@@ -16,7 +16,7 @@ mirrored true z = negℤ z
 mirrored false z = z
 
 abbrev pub mirrored-fix : Mirror → Fix → Fix
-mirrored-fix m f = record { t = f .t; x = mirrored (m .in-x) (f .x); y = mirrored (m .in-y) (f .y) }
+mirrored-fix m f = record { t = f .t; x = mirrored (m .in-x) (f .x); y = mirrored (m .in-y) (f .y); silence = f .silence }
 
 abbrev pub mirrored-place : Mirror → Place → Place
 mirrored-place m P = record { x = mirrored (m .in-x) (P .x); y = mirrored (m .in-y) (P .y); d = P .d }

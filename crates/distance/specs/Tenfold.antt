@@ -8,7 +8,7 @@ use Rattle.distance.specs.Box.{Box}
 
 -- A fix, a place and a box with every coordinate times k ..
 abbrev pub scaled-fix : (k : ℕ) → Fix → Fix
-scaled-fix k f = record { t = f .t; x = pos k *ℤ f .x; y = pos k *ℤ f .y }
+scaled-fix k f = record { t = f .t; x = pos k *ℤ f .x; y = pos k *ℤ f .y; silence = f .silence }
 
 abbrev pub scaled-place : (k : ℕ) → Place → Place
 scaled-place k P = record { x = pos k *ℤ P .x; y = pos k *ℤ P .y; d = P .d }

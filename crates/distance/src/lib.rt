@@ -9,6 +9,7 @@ ghost use lib.IntN.{pos, natAbs, _-ℤ_};
 ghost use Rattle.distance.specs.Fix.{fixOf};
 ghost use Rattle.distance.specs.Distance.{N, Nx, Ny, deviation, allowance};
 ghost use Rattle.distance.specs.Rounding.{half-up, rounded};
+ghost use Rattle.distance.specs.Silence.{silent};
 ghost use Rattle.distance.specs.Span.{Chord, Between, Off, one-word, greatest-N, Roundable};
 ghost use Rattle.distance.specs.Words.{WordsOf};
 
@@ -25,10 +26,14 @@ pub struct Coordinate(pub i32);
 // A length that isn't negative, in the record's unit: how far a dropped fix may be from its chord.
 pub struct Tolerance(pub u16);
 
+// What follows a fix: 1 is a silence, and 0 none. A record's byte may say anything; check 20 turns the rest away.
+pub struct Silence(pub u8);
+
 pub struct Fix {
     pub t: Seconds,
     pub x: Coordinate,
     pub y: Coordinate,
+    pub silence: Silence,
 }
 
 // The seconds from a to b, two times of one record. Nowhere else does a time on the clock become a number of 16 bits: check 9 has passed by then, and for the end
@@ -127,4 +132,12 @@ pub fn rounded(n: i64, d: u32) -> Coordinate
         return Coordinate(0 - whole);
     }
     Coordinate(whole)
+}
+
+// Whether a silence follows a fix.
+pub fn silent(f: Fix) -> bool
+    ensures { λ r. ⌜ r ≡ silent (fixOf f) ⌝ }
+{
+    let s = f.silence;
+    s.0 == 1
 }

@@ -26,15 +26,15 @@ checked-numbers (some k) b = record { refusal = k; kind = 0; count = 0; mark = 0
 abbrev pub head-numbers : List ℕ → Head
 head-numbers b = checked-numbers (read-refusal b) b
 
--- The reader makes checks 1 to 9, and yields the fix at a position or says that none is left.
+-- The reader makes checks 1 to 9 and 20, and yields the fix at a position or says that none is left.
 abbrev pub yield-answer : List ℕ → (position : ℕ) → Answer (Option Fix)
 yield-answer b position = answer (read-refusal b) (yields b position)
 
 -- A fix of a record of this kind, if there is one, unless there is a refusal.
 abbrev pub step-numbers : (kind : ℕ) → Answer (Option Fix) → Step
-step-numbers kind (gives (some f)) = record { refusal = 0; found = 1; kind = kind; t = f .t; x = f .x; y = f .y }
-step-numbers kind (gives none) = record { refusal = 0; found = 0; kind = 0; t = 0; x = pos 0; y = pos 0 }
-step-numbers kind (turns-away k) = record { refusal = k; found = 0; kind = 0; t = 0; x = pos 0; y = pos 0 }
+step-numbers kind (gives (some f)) = record { refusal = 0; found = 1; kind = kind; t = f .t; x = f .x; y = f .y; silence = f .silence }
+step-numbers kind (gives none) = record { refusal = 0; found = 0; kind = 0; t = 0; x = pos 0; y = pos 0; silence = 0 }
+step-numbers kind (turns-away k) = record { refusal = k; found = 0; kind = 0; t = 0; x = pos 0; y = pos 0; silence = 0 }
 
 -- A value, unless there is a refusal.
 abbrev pub value-numbers : Answer ℕ → Numbers

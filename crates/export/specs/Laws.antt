@@ -9,7 +9,7 @@ use lib.IntN.{ℤ, pos}
 use Rattle.distance.specs.Fix.{Fix}
 use Rattle.format.specs.Kinds.{Kind}
 use Rattle.format.specs.Format.{kind-field, count-field, mark-field, of-head}
-use Rattle.record.specs.Checks.{Check, few-bytes, other-kind, bad-count, bad-length, short-record, bad-mark, misplaced, unordered, long-span, high-tolerance, bad-thousandths, bad-moment, bad-window, bad-box, short-output, number, first, FirstHolds, this, not-before, refusal-of, placing, crossing as crosses, read-refusal}
+use Rattle.record.specs.Checks.{Check, few-bytes, other-kind, bad-count, bad-length, short-record, bad-mark, misplaced, unordered, long-span, high-tolerance, bad-thousandths, bad-moment, bad-window, bad-box, short-output, bad-silence, moment-in-silence, number, first, FirstHolds, this, not-before, refusal-of, placing, crossing as crosses, read-refusal}
 use Rattle.record.specs.Answers.{Answer, gives, turns-away, answer as told}
 use Rattle.writing.specs.Writing.{write-refusal, write-answer}
 use Rattle.record.specs.Laws.First.{first-exactly}
@@ -47,6 +47,8 @@ numbered bad-moment = omega arith
 numbered bad-window = omega arith
 numbered bad-box = omega arith
 numbered short-output = omega arith
+numbered bad-silence = omega arith
+numbered moment-in-silence = omega arith
 
 holds-numbered : {says : Check → Bool} {k : ℕ} {l : List Check} → FirstHolds says k l → 1 ≤ k
 holds-numbered (this {c} h e) = let p = numbered c in omega arith
@@ -103,10 +105,11 @@ pub crossing-none : (b : List ℕ) (s e : ℕ) (x : Box) → crossing-numbers (c
 crossing-none b s e x h = answer-none (λ a. crossing-numbers a .refusal) (λ k. refl) _ _ _ h
 
 -- ---- the reading function
-pub step-found : (kind : ℕ) (f : Fix) (x y : ℤ) (o : Option Fix) → x ≡ f .x → y ≡ f .y → some f ≡ o → _≡_ {A = Step} (record { refusal = 0; found = 1; kind = kind; t = f .t; x = x; y = y }) (step-numbers kind (gives o))
-step-found kind f x y o ex ey h = rw (ex, ey, ← h) refl
+pub step-found : (kind : ℕ) (f : Fix) (x y : ℤ) (s : ℕ) (o : Option Fix) → x ≡ f .x → y ≡ f .y → s ≡ f .silence → some f ≡ o
+    → _≡_ {A = Step} (record { refusal = 0; found = 1; kind = kind; t = f .t; x = x; y = y; silence = s }) (step-numbers kind (gives o))
+step-found kind f x y s o ex ey es h = rw (ex, ey, es, ← h) refl
 
-pub step-refused : (b : List ℕ) (position k n : ℕ) → n ≡ k → read-refusal b ≡ some k → _≡_ {A = Step} (record { refusal = n; found = 0; kind = 0; t = 0; x = pos 0; y = pos 0 }) (step-numbers (kind-field b) (yield-answer b position))
+pub step-refused : (b : List ℕ) (position k n : ℕ) → n ≡ k → read-refusal b ≡ some k → _≡_ {A = Step} (record { refusal = n; found = 0; kind = 0; t = 0; x = pos 0; y = pos 0; silence = 0 }) (step-numbers (kind-field b) (yield-answer b position))
 step-refused b position k n e h = rw (h, e) refl
 
 pub step-yielded : (b : List ℕ) (position kind : ℕ) (s : Step) (o : Option Fix) → read-refusal b ≡ none → kind ≡ of-head kind-field b → s ≡ step-numbers kind (gives o) → o ≡ yields b position

@@ -9,13 +9,13 @@ use distance::Tolerance;
 use format::Kind;
 use writing::Written;
 ghost use mathlib.Core.Path.{_≡_};
-ghost use mathlib.Core.List.{_++_};
+ghost use mathlib.Core.List.{[], _++_};
 ghost use Prim.Native.Nat.{_≤_};
 ghost use lib.ListN.{length, drop};
-ghost use Rattle.format.specs.Kinds.{trail, millimetre-trail};
+ghost use Rattle.format.specs.Kinds.{trail, millimetre-trail, silence-trail};
 ghost use Rattle.format.specs.Format.{kind-field};
 ghost use Rattle.text.specs.Text.{text};
-ghost use Rattle.record.specs.Reading.{read-answer, times-read, xs-read, ys-read};
+ghost use Rattle.record.specs.Reading.{read-answer, times-read, xs-read, ys-read, silences-read};
 ghost use Rattle.record.specs.Answers.{gives, found};
 ghost use Rattle.writing.specs.Answers.{wrote};
 ghost use Rattle.writing.specs.Writing.{columns, write-answer, written};
@@ -32,7 +32,8 @@ pub struct Head {
     pub mark: u32,
 }
 
-// A refusal, or a fix, where one was found, and the kind of its record, which says the unit of its place.
+// A refusal, or a fix, where one was found, and the kind of its record, which says the unit of its place; silence is 1 where one follows the fix, and 0 where none
+// does.
 #[repr(C)]
 pub struct Step {
     pub refusal: u32,
@@ -41,6 +42,7 @@ pub struct Step {
     pub t: u32,
     pub x: i32,
     pub y: i32,
+    pub silence: u32,
 }
 
 // A refusal, or a value.
@@ -89,7 +91,7 @@ fn whole(c: Coordinate) -> i32
     c.0
 }
 
-// Checks 1 to 9.
+// Checks 1 to 9 and 20.
 #[no_mangle]
 pub extern "C" fn trails_check(b: &[u8]) -> Head
     ensures { λ r. ⌜ r ≡ head-numbers (now (b .entry)) ⌝ }
@@ -121,6 +123,7 @@ fn step_of(s: record::Step, kind: u32) -> Step
     match s {
         record::Step::Found(f) => {
             let t = f.t;
+            let s = f.silence;
             Step {
                 refusal: 0,
                 found: 1,
@@ -128,6 +131,7 @@ fn step_of(s: record::Step, kind: u32) -> Step
                 t: t.0,
                 x: whole(f.x),
                 y: whole(f.y),
+                silence: wide(s.0),
             }
         },
         record::Step::NoneLeft => Step {
@@ -137,11 +141,12 @@ fn step_of(s: record::Step, kind: u32) -> Step
             t: 0,
             x: 0,
             y: 0,
+            silence: 0,
         },
     }
 }
 
-// The fix that a reader at this position yields, after checks 1 to 9.
+// The fix that a reader at this position yields, after checks 1 to 9 and 20.
 #[no_mangle]
 pub extern "C" fn trails_read(b: &[u8], position: usize) -> Step
     ensures { λ r. ⌜ r ≡ step-numbers (kind-field (now (b .entry))) (yield-answer (now (b .entry)) position) ⌝ }
@@ -155,6 +160,7 @@ pub extern "C" fn trails_read(b: &[u8], position: usize) -> Step
             t: 0,
             x: 0,
             y: 0,
+            silence: 0,
         },
         record::Checked::Accepted => {
             let h = format::head_of(b);
@@ -163,12 +169,18 @@ pub extern "C" fn trails_read(b: &[u8], position: usize) -> Step
     }
 }
 
-// All fixes, after checks 1 to 9, in three columns: the inverse of the two writers.
+// All fixes, after checks 1 to 9 and 20, in four columns: the inverse of the three writers.
 #[no_mangle]
-pub extern "C" fn trails_read_all(b: &[u8], t: &mut [u32], x: &mut [i32], y: &mut [i32]) -> Answer
-    ensures { λ r. ⌜ (r ≡ value-numbers (read-answer (now (b .entry)))) × (now (t .exit) ≡ times-read (now (b .entry)) (now (t .entry))) × (now (x .exit) ≡ xs-read (now (b .entry)) (now (x .entry))) × (now (y .exit) ≡ ys-read (now (b .entry)) (now (y .entry))) ⌝ }
+pub extern "C" fn trails_read_all(
+    b: &[u8],
+    t: &mut [u32],
+    x: &mut [i32],
+    y: &mut [i32],
+    silence: &mut [u8],
+) -> Answer
+    ensures { λ r. ⌜ (r ≡ value-numbers (read-answer (now (b .entry)))) × (now (t .exit) ≡ times-read (now (b .entry)) (now (t .entry))) × (now (x .exit) ≡ xs-read (now (b .entry)) (now (x .entry))) × (now (y .exit) ≡ ys-read (now (b .entry)) (now (y .entry))) × (now (silence .exit) ≡ silences-read (now (b .entry)) (now (silence .entry))) ⌝ }
 {
-    let a = record::read_all(b, t, x, y);
+    let a = record::read_all(b, t, x, y, silence);
     match a {
         record::AllRead::Count(fixes) => Answer {
             refusal: 0,
@@ -200,9 +212,9 @@ fn length_of(w: Written) -> Answer
 // The record of the fixes whose times and coordinates the three columns have, in centimetres: kind 1.
 #[no_mangle]
 pub extern "C" fn trails_write(t: &[u32], x: &[i32], y: &[i32], out: &mut [u8]) -> Answer
-    ensures { λ r. ⌜ (r ≡ value-numbers (write-answer trail (columns (now (t .entry)) (now (x .entry)) (now (y .entry))) (now (out .entry)))) × (now (out .exit) ≡ written trail (columns (now (t .entry)) (now (x .entry)) (now (y .entry))) (now (out .entry))) ⌝ }
+    ensures { λ r. ⌜ (r ≡ value-numbers (write-answer trail (columns trail (now (t .entry)) (now (x .entry)) (now (y .entry)) []) (now (out .entry)))) × (now (out .exit) ≡ written trail (columns trail (now (t .entry)) (now (x .entry)) (now (y .entry)) []) (now (out .entry))) ⌝ }
 {
-    let w = writing::write(Kind::Trail, t, x, y, out);
+    let w = writing::write(Kind::Trail, t, x, y, b"", out);
     length_of(w)
 }
 
@@ -214,16 +226,31 @@ pub extern "C" fn trails_write_millimetres(
     y: &[i32],
     out: &mut [u8],
 ) -> Answer
-    ensures { λ r. ⌜ (r ≡ value-numbers (write-answer millimetre-trail (columns (now (t .entry)) (now (x .entry)) (now (y .entry))) (now (out .entry)))) × (now (out .exit) ≡ written millimetre-trail (columns (now (t .entry)) (now (x .entry)) (now (y .entry))) (now (out .entry))) ⌝ }
+    ensures { λ r. ⌜ (r ≡ value-numbers (write-answer millimetre-trail (columns millimetre-trail (now (t .entry)) (now (x .entry)) (now (y .entry)) []) (now (out .entry)))) × (now (out .exit) ≡ written millimetre-trail (columns millimetre-trail (now (t .entry)) (now (x .entry)) (now (y .entry)) []) (now (out .entry))) ⌝ }
 {
-    let w = writing::write(Kind::MillimetreTrail, t, x, y, out);
+    let w = writing::write(Kind::MillimetreTrail, t, x, y, b"", out);
+    length_of(w)
+}
+
+// The same in centimetres with silences, which a fourth column has: kind 3.
+#[no_mangle]
+pub extern "C" fn trails_write_silences(
+    t: &[u32],
+    x: &[i32],
+    y: &[i32],
+    silence: &[u8],
+    out: &mut [u8],
+) -> Answer
+    ensures { λ r. ⌜ (r ≡ value-numbers (write-answer silence-trail (columns silence-trail (now (t .entry)) (now (x .entry)) (now (y .entry)) (now (silence .entry))) (now (out .entry)))) × (now (out .exit) ≡ written silence-trail (columns silence-trail (now (t .entry)) (now (x .entry)) (now (y .entry)) (now (silence .entry))) (now (out .entry))) ⌝ }
+{
+    let w = writing::write(Kind::SilenceTrail, t, x, y, silence, out);
     length_of(w)
 }
 
 // The listing's text of the lent bytes, at the start of the output, and its length.
 #[no_mangle]
-pub extern "C" fn trails_list(b: &[u8], out: &mut [u8; 126997]) -> usize
-    ensures { λ r. ⌜ (r ≡ length (text (now (b .entry)))) × (r ≤ 126997) × (now (out .exit) ≡ text (now (b .entry)) ++ drop r (now (out .entry))) ⌝ }
+pub extern "C" fn trails_list(b: &[u8], out: &mut [u8; 159765]) -> usize
+    ensures { λ r. ⌜ (r ≡ length (text (now (b .entry)))) × (r ≤ 159765) × (now (out .exit) ≡ text (now (b .entry)) ++ drop r (now (out .entry))) ⌝ }
 {
     text::list(b, out)
 }

@@ -45,13 +45,18 @@ record-length K n = 10 + K .size * n
 abbrev pub HoldsLongest : List ℕ → Type 0
 HoldsLongest l = (κ : CodeKind) → record-length (layout κ) 4096 ≤ length l
 
--- The fix that stands at a place of the bytes, its coordinates of so many bytes each: time, x, y.
-unfoldable pub fix-from : (width : ℕ) → List ℕ → (at : ℕ) → Fix
-fix-from width b at = record { t = number-at b at 4; x = signed width (number-at b (at + 4) width); y = signed width (number-at b (at + 4 + width) width) }
+-- The fix that stands at a place of the bytes, its coordinates of so many bytes each and its silence of so many: time, x, y, silence. No bytes say 0.
+unfoldable pub fix-from : (width silence-width : ℕ) → List ℕ → (at : ℕ) → Fix
+fix-from width silence-width b at = record {
+  t = number-at b at 4;
+  x = signed width (number-at b (at + 4) width);
+  y = signed width (number-at b (at + 4 + width) width);
+  silence = number-at b (at + 4 + width + width) silence-width;
+}
 
 -- The fix at a position, counted from 0.
 unfoldable pub fix-at : Kind → List ℕ → ℕ → Fix
-fix-at K b k = fix-from (K .width) b (record-length K k)
+fix-at K b k = fix-from (K .width) (K .silence-width) b (record-length K k)
 
 -- f k, f (k + 1) and so on, n of them.
 unfoldable pub each {ℓ} : {A : Type ℓ} → (ℕ → A) → (k n : ℕ) → List A
@@ -63,12 +68,13 @@ abbrev pub fixes : List ℕ → List Fix
 fixes b = each (fix-at (kind-of b) b) 0 (count-field b)
 
 -- ---- writing
--- The bytes of a fix, its coordinates in so many bytes each: time, x, y.
-unfoldable pub fix-to : (width : ℕ) → Fix → List ℕ
-fix-to width f = bytes-of 4 (f .t) ++ (bytes-of width (unsigned width (f .x)) ++ bytes-of width (unsigned width (f .y)))
+-- The bytes of a fix, its coordinates in so many bytes each and its silence in so many: time, x, y, silence.
+unfoldable pub fix-to : (width silence-width : ℕ) → Fix → List ℕ
+fix-to width silence-width f =
+    bytes-of 4 (f .t) ++ (bytes-of width (unsigned width (f .x)) ++ (bytes-of width (unsigned width (f .y)) ++ bytes-of silence-width (f .silence)))
 
 unfoldable pub fix-bytes : Kind → Fix → List ℕ
-fix-bytes K f = fix-to (K .width) f
+fix-bytes K f = fix-to (K .width) (K .silence-width) f
 
 unfoldable pub all-bytes : Kind → List Fix → List ℕ
 all-bytes K [] = []

@@ -2,7 +2,7 @@
 ghost use mathlib.Core.Path.{_≡_};
 ghost use Prim.Native.Nat.{_<_, _≤_};
 ghost use lib.ListN.{length};
-ghost use Rattle.format.specs.Kinds.{kinds, coded, layout, units};
+ghost use Rattle.format.specs.Kinds.{has-silences, kinds, coded, layout, units};
 ghost use Rattle.format.specs.Format.{kind-field, kind-of, record-length};
 use crate::Kind;
 use crate::Unit;
@@ -14,7 +14,7 @@ pub fn known_kind(b: &[u8]) -> bool
     ensures { λ r. ⌜ r ≡ coded kinds (kind-field (now (b .entry))) ⌝ }
 {
     let code = two_at(b, 4);
-    (code == 1) | (code == 2)
+    (code == 1) | ((code == 2) | (code == 3))
 }
 
 // The kind of lent bytes; of a number that no kind has, the first.
@@ -22,10 +22,24 @@ pub fn kind_at(b: &[u8]) -> Kind
     requires { ⌜ 10 ≤ length (now b) ⌝ }
     ensures { λ r. ⌜ layout r ≡ kind-of (now (b .entry)) ⌝ }
 {
-    if two_at(b, 4) == 2 {
-        Kind::MillimetreTrail
-    } else {
-        Kind::Trail
+    let number = two_at(b, 4);
+    if number == 2 {
+        return Kind::MillimetreTrail;
+    }
+    if number == 3 {
+        return Kind::SilenceTrail;
+    }
+    Kind::Trail
+}
+
+// Whether a kind's fixes say that silence follows.
+pub fn has_silences(kind: Kind) -> bool
+    ensures { λ r. ⌜ r ≡ has-silences (layout kind) ⌝ }
+{
+    match kind {
+        Kind::Trail => false,
+        Kind::MillimetreTrail => false,
+        Kind::SilenceTrail => true,
     }
 }
 
@@ -36,6 +50,7 @@ pub(crate) fn code_of(kind: Kind) -> u32
     match kind {
         Kind::Trail => 1,
         Kind::MillimetreTrail => 2,
+        Kind::SilenceTrail => 3,
     }
 }
 
@@ -46,6 +61,7 @@ pub fn size_of(kind: Kind) -> u32
     match kind {
         Kind::Trail => 8,
         Kind::MillimetreTrail => 12,
+        Kind::SilenceTrail => 9,
     }
 }
 
@@ -57,6 +73,7 @@ pub fn record_length(kind: Kind, n: u32) -> u32
     match kind {
         Kind::Trail => 10 + 8 * n,
         Kind::MillimetreTrail => 10 + 12 * n,
+        Kind::SilenceTrail => 10 + 9 * n,
     }
 }
 
@@ -67,6 +84,7 @@ pub fn limit_of(kind: Kind) -> u32
     match kind {
         Kind::Trail => 16000,
         Kind::MillimetreTrail => 160000,
+        Kind::SilenceTrail => 16000,
     }
 }
 
@@ -77,6 +95,7 @@ pub fn top_of(kind: Kind) -> u32
     match kind {
         Kind::Trail => 32000,
         Kind::MillimetreTrail => 60000,
+        Kind::SilenceTrail => 32000,
     }
 }
 
@@ -87,6 +106,7 @@ pub fn per_centimetre(kind: Kind) -> u32
     match kind {
         Kind::Trail => 1,
         Kind::MillimetreTrail => 10,
+        Kind::SilenceTrail => 1,
     }
 }
 
@@ -97,5 +117,6 @@ pub fn unit_of(kind: Kind) -> Unit
     match kind {
         Kind::Trail => Unit::Centimetres,
         Kind::MillimetreTrail => Unit::Millimetres,
+        Kind::SilenceTrail => Unit::Centimetres,
     }
 }

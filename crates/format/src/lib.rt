@@ -22,6 +22,8 @@ use crate::numbers::wide_coordinate;
 use crate::numbers::wide_coordinate_number;
 use distance::Fix;
 use distance::Seconds;
+use distance::Silence;
+pub use kinds::has_silences;
 pub use kinds::kind_at;
 pub use kinds::known_kind;
 pub use kinds::limit_of;
@@ -31,10 +33,11 @@ pub use kinds::size_of;
 pub use kinds::top_of;
 pub use kinds::unit_of;
 
-// The kinds of record: in centimetres, and in millimetres. What each has otherwise is behind the matches of this crate.
+// The kinds of record: in centimetres, in millimetres, and in centimetres with silences. What each has otherwise is behind the matches of this crate.
 pub enum Kind {
     Trail,
     MillimetreTrail,
+    SilenceTrail,
 }
 
 // The unit of a record's places and of all lengths that are asked of it.
@@ -50,10 +53,10 @@ pub struct Head {
     pub mark: u32,
 }
 
-// The fix at a place of the bytes, its coordinates of two bytes each ..
+// The fix at a place of the bytes, its coordinates of two bytes each, ..
 fn narrow_fix(b: &[u8], at: usize) -> Fix
     requires { ⌜ at + 8 ≤ length (now b) ⌝ }
-    ensures { λ r. ⌜ fixOf r ≡ fix-from 2 (now (b .entry)) at ⌝ }
+    ensures { λ r. ⌜ fixOf r ≡ fix-from 2 0 (now (b .entry)) at ⌝ }
 {
     let t = four_at(b, at);
     let x = coordinate(two_at(b, at + 4));
@@ -62,13 +65,14 @@ fn narrow_fix(b: &[u8], at: usize) -> Fix
         t: Seconds(t),
         x,
         y,
+        silence: Silence(0),
     }
 }
 
-// .. and of four.
+// .. of four ..
 fn wide_fix(b: &[u8], at: usize) -> Fix
     requires { ⌜ at + 12 ≤ length (now b) ⌝ }
-    ensures { λ r. ⌜ fixOf r ≡ fix-from 4 (now (b .entry)) at ⌝ }
+    ensures { λ r. ⌜ fixOf r ≡ fix-from 4 0 (now (b .entry)) at ⌝ }
 {
     let t = four_at(b, at);
     let x = wide_coordinate(four_at(b, at + 4));
@@ -77,6 +81,24 @@ fn wide_fix(b: &[u8], at: usize) -> Fix
         t: Seconds(t),
         x,
         y,
+        silence: Silence(0),
+    }
+}
+
+// .. and of two, with the byte of silence behind them.
+fn silence_fix(b: &[u8], at: usize) -> Fix
+    requires { ⌜ at + 9 ≤ length (now b) ⌝ }
+    ensures { λ r. ⌜ fixOf r ≡ fix-from 2 1 (now (b .entry)) at ⌝ }
+{
+    let f = narrow_fix(b, at);
+    let t = f.t;
+    let x = f.x;
+    let y = f.y;
+    Fix {
+        t,
+        x,
+        y,
+        silence: Silence(b[at + 8]),
     }
 }
 
@@ -88,6 +110,7 @@ pub fn fix_at(b: &[u8], kind: Kind, k: usize) -> Fix
     match kind {
         Kind::Trail => narrow_fix(b, 10 + 8 * k),
         Kind::MillimetreTrail => wide_fix(b, 10 + 12 * k),
+        Kind::SilenceTrail => silence_fix(b, 10 + 9 * k),
     }
 }
 
@@ -133,10 +156,10 @@ pub fn head_of(b: &[u8]) -> Head
     }
 }
 
-// A fix at a place of the output, its coordinates in two bytes each ..
+// A fix at a place of the output, its coordinates in two bytes each, ..
 fn put_narrow_fix(out: &mut [u8], at: usize, f: Fix)
     requires { ⌜ (at + 8 ≤ length (now out)) × InBytes 2 (f .x .0) × InBytes 2 (f .y .0) ⌝ }
-    ensures { λ _. ⌜ now (out .exit) ≡ sets (now (out .entry)) at (fix-to 2 (fixOf f)) ⌝ }
+    ensures { λ _. ⌜ now (out .exit) ≡ sets (now (out .entry)) at (fix-to 2 0 (fixOf f)) ⌝ }
 {
     let t = f.t;
     put_four(out, at, t.0);
@@ -144,15 +167,25 @@ fn put_narrow_fix(out: &mut [u8], at: usize, f: Fix)
     put_two(out, at + 6, coordinate_number(f.y));
 }
 
-// .. and in four.
+// .. in four ..
 fn put_wide_fix(out: &mut [u8], at: usize, f: Fix)
     requires { ⌜ at + 12 ≤ length (now out) ⌝ }
-    ensures { λ _. ⌜ now (out .exit) ≡ sets (now (out .entry)) at (fix-to 4 (fixOf f)) ⌝ }
+    ensures { λ _. ⌜ now (out .exit) ≡ sets (now (out .entry)) at (fix-to 4 0 (fixOf f)) ⌝ }
 {
     let t = f.t;
     put_four(out, at, t.0);
     put_four(out, at + 4, wide_coordinate_number(f.x));
     put_four(out, at + 8, wide_coordinate_number(f.y));
+}
+
+// .. and in two, with its silence behind them.
+fn put_silence_fix(out: &mut [u8], at: usize, f: Fix)
+    requires { ⌜ (at + 9 ≤ length (now out)) × InBytes 2 (f .x .0) × InBytes 2 (f .y .0) ⌝ }
+    ensures { λ _. ⌜ now (out .exit) ≡ sets (now (out .entry)) at (fix-to 2 1 (fixOf f)) ⌝ }
+{
+    let silence = f.silence;
+    put_narrow_fix(out, at, f);
+    out[at + 8] = silence.0;
 }
 
 // A fix that its kind's bytes can say, at a place of the output.
@@ -163,6 +196,7 @@ pub fn put_fix(out: &mut [u8], kind: Kind, at: usize, f: Fix)
     match kind {
         Kind::Trail => put_narrow_fix(out, at, f),
         Kind::MillimetreTrail => put_wide_fix(out, at, f),
+        Kind::SilenceTrail => put_silence_fix(out, at, f),
     }
 }
 
@@ -189,7 +223,16 @@ fn move_twelve(b: &mut [u8], from: usize, to: usize)
     put_four(b, to + 8, third);
 }
 
-// The fix at position k, put at position w.
+fn move_nine(b: &mut [u8], from: usize, to: usize)
+    requires { ⌜ (from + 9 ≤ length (now b)) × (to + 9 ≤ length (now b)) ⌝ }
+    ensures { λ _. ⌜ now (b .exit) ≡ sets (now (b .entry)) to (take 9 (drop from (now (b .entry)))) ⌝ }
+{
+    let last = b[from + 8];
+    move_eight(b, from, to);
+    b[to + 8] = last;
+}
+
+// The fix at position k, put at position w, with all that it says.
 pub fn move_fix(b: &mut [u8], kind: Kind, k: usize, w: usize)
     requires { ⌜ (record-length (layout kind) (suc k) ≤ length (now b)) × (record-length (layout kind) (suc w) ≤ length (now b)) ⌝ }
     ensures { λ _. ⌜ now (b .exit) ≡ sets (now (b .entry)) (record-length (layout kind) w) (fix-bytes (layout kind) (fix-at (layout kind) (now (b .entry)) k)) ⌝ }
@@ -197,6 +240,7 @@ pub fn move_fix(b: &mut [u8], kind: Kind, k: usize, w: usize)
     match kind {
         Kind::Trail => move_eight(b, 10 + 8 * k, 10 + 8 * w),
         Kind::MillimetreTrail => move_twelve(b, 10 + 12 * k, 10 + 12 * w),
+        Kind::SilenceTrail => move_nine(b, 10 + 9 * k, 10 + 9 * w),
     }
 }
 

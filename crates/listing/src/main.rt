@@ -13,7 +13,7 @@ fn read_record(bytes: &mut [u8]) -> usize
 fn main() {
     let mut bytes = [0u8; 49162];
     let lent = read_record(&mut bytes);
-    let mut text = [0u8; 126997];
+    let mut text = [0u8; 159765];
     let length = text::list(&bytes[..lent], &mut text);
     io::write_all(libc::STDOUT_FILENO, &text[..length]);
 }

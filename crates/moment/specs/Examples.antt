@@ -8,6 +8,7 @@ use lib.IntN.{pos}
 use Rattle.distance.specs.Examples.{Computes, minus}
 use Rattle.distance.specs.Fix.{last-of}
 use Rattle.distance.specs.Place.{own}
+use Rattle.distance.specs.Silence.{silence-from, in-silence}
 use Rattle.distance.specs.Rounding.{half-up, with-sign-of, rounded}
 use Rattle.distance.specs.Mirror.{Mirror}
 use Rattle.distance.specs.Clock.{moved}
@@ -15,7 +16,7 @@ use Rattle.distance.specs.Laws.All.{All, all-always}
 use Rattle.format.specs.Bytes.{number-at, bytes-of, signed, unsigned}
 use Rattle.format.specs.Format.{kind-of, fix-at, fix-from, each, fix-to, fix-bytes, all-bytes, header-bytes, record-bytes, changed}
 use Rattle.format.specs.Laws.RoundTrip.{all-below, computed-bytes}
-use Rattle.record.specs.Checks.{sentence, first, some-outside, some-early-after, some-early, of-ends}
+use Rattle.record.specs.Checks.{sentence, first, some-outside, some-other-silence, some-early-after, some-early, of-ends}
 use Rattle.record.specs.Answers.{Answer, gives, turns-away, SameAnswer}
 use Rattle.record.specs.Examples.{read-rows, on-refused, MovableRow, movable-rows}
 use Rattle.record.specs.Moved.{moved-record}
@@ -59,7 +60,7 @@ moment-rows =
     ∷ []
 
 pub moments-computed : Computes (λ (p : ℕ × ℕ). place-answer place-trail (p .0) (p .1)) moment-rows
-unfolding first sentence some-outside some-early-after some-early last-of of-ends kind-of fix-at fix-from each number-at signed at-moment moment-from on-leg own rounded with-sign-of half-up
+unfolding first sentence some-outside some-other-silence some-early-after some-early last-of of-ends kind-of fix-at fix-from each number-at signed in-silence silence-from at-moment moment-from on-leg own rounded with-sign-of half-up
 moments-computed = refl
 
 -- ---- MILLIMETRES: the trail (1000,160000,−160000) (1010,159995,−159995) of kind 2. Each place is a fraction of millimetres, and rounded to one.
@@ -74,12 +75,42 @@ pub millimetre-moments-computed : Computes (λ (p : ℕ × ℕ). place-answer mi
     ∷ ((1001, 1), opposite 1599994995 159999)
     ∷ ((1010, 1), turns-away 12)
     ∷ [])
-unfolding first sentence some-outside some-early-after some-early last-of of-ends kind-of fix-at fix-from each number-at signed at-moment moment-from on-leg own rounded with-sign-of half-up
+unfolding first sentence some-outside some-other-silence some-early-after some-early last-of of-ends kind-of fix-at fix-from each number-at signed in-silence silence-from at-moment moment-from on-leg own rounded with-sign-of half-up
 millimetre-moments-computed = refl
 
--- What the reader refuses the place question refuses, 1 to 9, and before 11.
+-- ---- SILENCE: a trail of kind 3, (1000,0,0) with silence after it, (1010,5,−5), (1020,5,−5) with silence after it, and (1030,15,−15). At the two ends of a silence
+-- there is the fix's own place, on the first leg whose end isn't earlier, which is the silent one at its end; strictly inside, 21, by a thousandth too.
+abbrev pub silent-places : List ℕ
+silent-places =
+    46 ∷ 0 ∷ 0 ∷ 0 ∷ 3 ∷ 0 ∷ 255 ∷ 255 ∷ 4 ∷ 0
+    ∷ 232 ∷ 3 ∷ 0 ∷ 0 ∷ 0 ∷ 0 ∷ 0 ∷ 0 ∷ 1
+    ∷ 242 ∷ 3 ∷ 0 ∷ 0 ∷ 5 ∷ 0 ∷ 251 ∷ 255 ∷ 0
+    ∷ 252 ∷ 3 ∷ 0 ∷ 0 ∷ 5 ∷ 0 ∷ 251 ∷ 255 ∷ 1
+    ∷ 6 ∷ 4 ∷ 0 ∷ 0 ∷ 15 ∷ 0 ∷ 241 ∷ 255 ∷ 0
+    ∷ []
+
+pub silent-moments-computed : Computes (λ (p : ℕ × ℕ). place-answer silent-places (p .0) (p .1))
+    (((1000, 0), opposite 0 0)
+    ∷ ((1000, 1), turns-away 21)
+    ∷ ((1005, 500), turns-away 21)
+    ∷ ((1009, 999), turns-away 21)
+    ∷ ((1010, 0), opposite 50000 5)
+    ∷ ((1010, 1), opposite 50000 5)
+    ∷ ((1020, 0), opposite 50000 5)
+    ∷ ((1020, 1), turns-away 21)
+    ∷ ((1029, 999), turns-away 21)
+    ∷ ((1030, 0), opposite 150000 15)
+    -- 11 and 12 before 21
+    ∷ ((1005, 1000), turns-away 11)
+    ∷ ((1030, 1), turns-away 12)
+    ∷ ((999, 999), turns-away 12)
+    ∷ [])
+unfolding first sentence some-outside some-other-silence some-early-after some-early last-of of-ends kind-of fix-at fix-from each number-at signed in-silence silence-from at-moment moment-from on-leg own rounded with-sign-of half-up
+silent-moments-computed = refl
+
+-- What the reader refuses the place question refuses, 1 to 9 and 20, and before 11.
 pub place-refusals : Computes (λ (b : List ℕ). place-answer b 0 1000) (on-refused (λ b k. (b, turns-away k)) read-rows)
-unfolding first sentence some-outside some-early-after some-early last-of of-ends kind-of fix-at fix-from each number-at signed
+unfolding first sentence some-outside some-other-silence some-early-after some-early last-of of-ends kind-of fix-at fix-from each number-at signed
 place-refusals = refl
 
 -- The trail mirrored, with two bytes more behind it: in x, in y, in both. The head and what follows the record are as they were.
@@ -115,10 +146,10 @@ pub tenfold-moments : Computes (λ (p : ℕ × ℕ). place-answer (tenfold-recor
     ∷ ((1010, 1), turns-away 12)
     ∷ ((1000, 1000), turns-away 11)
     ∷ [])
-unfolding tenfold-record tenfold-mark header-bytes record-bytes all-bytes fix-bytes fix-to bytes-of unsigned first sentence some-outside some-early-after some-early last-of of-ends kind-of fix-at fix-from each number-at signed at-moment moment-from on-leg own rounded with-sign-of half-up
+unfolding tenfold-record tenfold-mark header-bytes record-bytes all-bytes fix-bytes fix-to bytes-of unsigned first sentence some-outside some-other-silence some-early-after some-early last-of of-ends kind-of fix-at fix-from each number-at signed in-silence silence-from at-moment moment-from on-leg own rounded with-sign-of half-up
 tenfold-moments = refl
 
 -- the law of it, at every moment
 pub placed-in-millimetres : (s m : ℕ) → SameAnswer TenfoldPlace (place-answer (tenfold-record place-trail) s m) (place-answer place-trail s m)
-unfolding kind-of all-below first sentence some-outside some-early-after some-early last-of of-ends fix-from fix-at each number-at signed
+unfolding kind-of all-below first sentence some-outside some-other-silence some-early-after some-early last-of of-ends fix-from fix-at each number-at signed
 placed-in-millimetres s m = place-answer-tenfold (tenfold-never place-trail (computed-bytes place-trail refl) (record { accepted = refl }) refl refl) s m

@@ -55,6 +55,7 @@ asked-moment s m = record {
   output = nothing .output;
 }
 
--- THE ANSWER of the place question on lent bytes: "the place question 1 to 9, 11, 12".
+-- THE ANSWER of the place question on lent bytes: "the place question 1 to 9, 11, 12", and of document 02's item 5 "20, directly after 9 [..]; 21, after 12, if the
+-- moment is strictly inside a silence". At its two ends it has a fix's own place, on the first leg whose end isn't earlier, as everywhere.
 abbrev pub place-answer : List ℕ → (s m : ℕ) → Answer Standing
 place-answer b s m = answer (refusal-of placing b (asked-moment s m)) (beside (at-moment (fixes b) s m))

@@ -5,17 +5,18 @@ use distance::Seconds;
 use format::Kind;
 use record::Checked;
 ghost use mathlib.Core.Path.{_≡_};
+ghost use mathlib.Core.Bool.{_&&_};
 ghost use Prim.Native.Nat.{_+_, _*_, _≤_};
 ghost use lib.IntN.{pos, natAbs};
 ghost use Rattle.distance.specs.Fix.{fixOf, widest};
-ghost use Rattle.distance.specs.Place.{own, leg, interpolated, place};
+ghost use Rattle.distance.specs.Place.{instant, own, leg, interpolated, place};
+ghost use Rattle.distance.specs.Silence.{silent, strictly-between, in-silence};
 ghost use Rattle.format.specs.Kinds.{layout};
 ghost use Rattle.format.specs.Format.{kind-of, fixes};
 ghost use Rattle.record.specs.Checks.{IsAccepted};
 ghost use Rattle.moment.specs.Moment.{beside, place-answer};
 ghost use Rattle.moment.specs.Answers.{standing, placed};
-ghost use Rattle.moment.specs.Laws.Moment.{instant};
-ghost use Rattle.moment.specs.Laws.Ranges.{OnLeg, Reached};
+ghost use Rattle.moment.specs.Laws.Ranges.{OnLeg, Reached, unless-silent};
 
 // A place in whole units of the record.
 pub struct Whole {
@@ -81,6 +82,19 @@ fn on_leg(a: Fix, b: Fix, u: Instant) -> Spot
     }
 }
 
+// The place on the leg from a to b, or 21 if the moment is strictly inside a silence.
+fn heard_on_leg(a: Fix, b: Fix, u: Instant) -> Placed
+    requires { ⌜ OnLeg (fixOf a) (fixOf b) (u .0) ⌝ }
+    ensures { λ r. ⌜ placed r ≡ unless-silent (silent (fixOf a) && strictly-between (fixOf a) (fixOf b) (instant (u .0))) (leg (fixOf a) (fixOf b) (instant (u .0))) ⌝ }
+{
+    let start = instant_of(a.t, 0);
+    let end = instant_of(b.t, 0);
+    if distance::silent(a) & ((start.0 < u.0) & (u.0 < end.0)) {
+        return Placed::Refused(21);
+    }
+    Placed::At(on_leg(a, b, u))
+}
+
 // A fix's own place.
 fn alone(a: Fix) -> Spot
     ensures { λ r. ⌜ standing r ≡ beside (own (fixOf a)) ⌝ }
@@ -96,10 +110,10 @@ fn alone(a: Fix) -> Spot
     }
 }
 
-// The place on the first leg whose end isn't earlier than the moment.
-fn place_on(b: &[u8], kind: Kind, n: usize, u: Instant) -> Spot
+// The place on the first leg whose end isn't earlier than the moment, or 21.
+fn place_on(b: &[u8], kind: Kind, n: usize, u: Instant) -> Placed
     requires { ⌜ Reached (layout kind) (now b) n (u .0) ⌝ }
-    ensures { λ r. ⌜ standing r ≡ beside (place (fixes (now (b .entry))) (instant (u .0))) ⌝ }
+    ensures { λ r. ⌜ placed r ≡ unless-silent (in-silence (fixes (now (b .entry))) (instant (u .0))) (place (fixes (now (b .entry))) (instant (u .0))) ⌝ }
 {
     let mut a = format::fix_at(b, kind, 0);
     let mut k = 1;
@@ -107,15 +121,15 @@ fn place_on(b: &[u8], kind: Kind, n: usize, u: Instant) -> Spot
         let z = format::fix_at(b, kind, k);
         let end = instant_of(z.t, 0);
         if u.0 <= end.0 {
-            return on_leg(a, z, u);
+            return heard_on_leg(a, z, u);
         }
         a = z;
         k += 1;
     }
-    alone(a)
+    Placed::At(alone(a))
 }
 
-// Checks 11 and 12, and the answer, of a record that is accepted.
+// Checks 11, 12 and 21, and the answer, of a record that is accepted.
 fn place_accepted(b: &[u8], kind: Kind, second: Seconds, thousandths: u16) -> Placed
     requires { ⌜ IsAccepted (now b) × (layout kind ≡ kind-of (now b)) ⌝ }
     ensures { λ r. ⌜ placed r ≡ place-answer (now (b .entry)) (second .0) thousandths ⌝ }
@@ -135,7 +149,7 @@ fn place_accepted(b: &[u8], kind: Kind, second: Seconds, thousandths: u16) -> Pl
     if end.0 < u.0 {
         return Placed::Refused(12);
     }
-    Placed::At(place_on(b, kind, n, u))
+    place_on(b, kind, n, u)
 }
 
 // Where the trail of a record is at a moment: a second and so many thousandths.

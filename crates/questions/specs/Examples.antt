@@ -13,11 +13,11 @@ use Rattle.distance.specs.Clock.{moved}
 use Rattle.distance.specs.Laws.All.{All, all-always}
 use Rattle.format.specs.Bytes.{number-at, bytes-of, signed, unsigned}
 use Rattle.format.specs.Format.{kind-of, never, mark-field, fix-from, fix-at, each, fix-to, fix-bytes, all-bytes, header-bytes, record-bytes}
-use Rattle.record.specs.Checks.{IsAccepted, sentence, first, some-outside, some-early-after, some-early, of-ends}
+use Rattle.record.specs.Checks.{IsAccepted, sentence, first, some-outside, some-other-silence, some-early-after, some-early, of-ends}
 use Rattle.record.specs.Answers.{Answer, gives, turns-away}
 use Rattle.format.specs.Laws.RoundTrip.{AreBytes, all-below, computed-bytes}
-use Rattle.thinning.specs.Thinning.{sooner, furthest, every, but-last, thin-span, thin, thinning}
-use Rattle.aging.specs.Examples.{straight}
+use Rattle.thinning.specs.Thinning.{sooner, furthest, every, but-last, thin-span, thin, joined, stretches, thin-each, thinning}
+use Rattle.aging.specs.Examples.{straight, parted-trail, parted-aged}
 use Rattle.aging.specs.Aging.{Call, by-tolerance, by-days, new-mark, thinned-record, last-row}
 use Rattle.aging.specs.Tenfold.{at-ten-times, by-same-days, both-too-high}
 use Rattle.legs.specs.declared.Fraction.{Fraction}
@@ -85,9 +85,19 @@ left-at-32001 =
     ∷ 30 ∷ 0 ∷ 0 ∷ 0 ∷ 0 ∷ 0 ∷ 0 ∷ 0 ∷ 0 ∷ 0 ∷ 0 ∷ 0
     ∷ 7 ∷ 9 ∷ []
 
+-- The first trail with silence after its second fix, of kind 3. Its stretches have two fixes each, so that no tolerance drops any; behind the record stand 7 and 9.
+abbrev pub lent-in-kind-3 : (low high : ℕ) → List ℕ
+lent-in-kind-3 low high =
+    46 ∷ 0 ∷ 0 ∷ 0 ∷ 3 ∷ 0 ∷ low ∷ high ∷ 4 ∷ 0
+    ∷ 0 ∷ 0 ∷ 0 ∷ 0 ∷ 0 ∷ 0 ∷ 0 ∷ 0 ∷ 0
+    ∷ 10 ∷ 0 ∷ 0 ∷ 0 ∷ 20 ∷ 0 ∷ 0 ∷ 0 ∷ 1
+    ∷ 20 ∷ 0 ∷ 0 ∷ 0 ∷ 20 ∷ 0 ∷ 0 ∷ 0 ∷ 0
+    ∷ 30 ∷ 0 ∷ 0 ∷ 0 ∷ 0 ∷ 0 ∷ 0 ∷ 0 ∷ 0
+    ∷ 7 ∷ 9 ∷ []
+
 -- ---- what the claim asks
 pub lent-accepted : IsAccepted lent
-unfolding first sentence some-outside some-early-after some-early last-of of-ends kind-of fix-from fix-at each number-at signed
+unfolding first sentence some-outside some-other-silence some-early-after some-early last-of of-ends kind-of fix-from fix-at each number-at signed
 lent-accepted = record { accepted = refl }
 
 pub lent-bytes : AreBytes lent
@@ -104,8 +114,13 @@ on-lent calls = claim lent calls lent-bytes lent-accepted lent-never
 
 -- .. and on the record of kind 2
 pub on-kind-2 : (calls : List Call) → Claim lent-in-kind-2 calls
-unfolding all-below first sentence some-outside some-early-after some-early last-of of-ends kind-of fix-from fix-at each number-at signed
+unfolding all-below first sentence some-outside some-other-silence some-early-after some-early last-of of-ends kind-of fix-from fix-at each number-at signed
 on-kind-2 calls = claim lent-in-kind-2 calls (computed-bytes lent-in-kind-2 refl) (record { accepted = refl }) refl
+
+-- .. and on the record of kind 3
+pub on-kind-3 : (calls : List Call) → Claim (lent-in-kind-3 255 255) calls
+unfolding all-below first sentence some-outside some-other-silence some-early-after some-early last-of of-ends kind-of fix-from fix-at each number-at signed
+on-kind-3 calls = claim (lent-in-kind-3 255 255) calls (computed-bytes (lent-in-kind-3 255 255) refl) (record { accepted = refl }) refl
 
 -- A buffer, the calls on it, and the bytes that they leave.
 pub record Example : Type 0 where
@@ -129,6 +144,9 @@ cases =
     -- of kind 2, 60,001 is refused and 32,001 is not; day 7 thins at 250, which the mark stays above
     ∷ record { buffer = lent-in-kind-2; calls = by-tolerance 60001 ∷ []; bytes = lent-in-kind-2 }
     ∷ record { buffer = lent-in-kind-2; calls = by-tolerance 32001 ∷ by-days 7 ∷ []; bytes = left-at-32001 }
+    -- of kind 3 each stretch is thinned by itself, at 25 and after it at 12 too, and 32,001 is refused
+    ∷ record { buffer = lent-in-kind-3 255 255; calls = by-tolerance 25 ∷ by-tolerance 32001 ∷ by-tolerance 12 ∷ []; bytes = lent-in-kind-3 25 0 }
+    ∷ record { buffer = parted-trail; calls = by-tolerance 0 ∷ by-days 7 ∷ []; bytes = parted-aged 25 0 }
     ∷ []
 
 abbrev pub computed : List Example → List (List ℕ)
@@ -140,7 +158,7 @@ expected [] = []
 expected (r ∷ l) = r .bytes ∷ expected l
 
 pub examples : computed cases ≡ expected cases
-unfolding run thinned-record new-mark last-row thinning thin thin-span furthest sooner every but-last last-of deviation allowance first sentence some-outside some-early-after some-early of-ends kind-of fix-from fix-at each number-at signed unsigned bytes-of fix-to fix-bytes all-bytes header-bytes record-bytes
+unfolding run thinned-record new-mark last-row thinning thin-each stretches joined thin thin-span furthest sooner every but-last last-of deviation allowance first sentence some-outside some-other-silence some-early-after some-early of-ends kind-of fix-from fix-at each number-at signed unsigned bytes-of fix-to fix-bytes all-bytes header-bytes record-bytes
 examples = refl
 
 -- ---- the crossing on it: the original reaches x = 20, what is left at 25 does not
@@ -153,7 +171,7 @@ answers = cross-answer lent 0 30 shelf ∷ cross-answer left-at-25 0 30 shelf �
 
 pub crossings : answers ≡ gives (some (record { num = 100; den = 20 })) ∷ gives none ∷ turns-away 13
     ∷ gives (some (record { num = 1000; den = 200 })) ∷ gives none ∷ []
-unfolding first sentence some-outside some-early-after some-early last-of of-ends kind-of fix-from fix-at each number-at signed first-crossing first-from leg-first leg-times axis-times first-of later-of earlier-of
+unfolding first sentence some-outside some-other-silence some-early-after some-early last-of of-ends kind-of fix-from fix-at each number-at signed first-crossing first-from leg-first leg-times axis-times first-of later-of earlier-of
 crossings = refl
 
 -- ---- the law of a moved clock and a list, of bytes that are accepted and of refused ones
@@ -193,5 +211,5 @@ millimetres-at-120-and-250 =
 pub millimetres-left : (run (tenfold-record lent) (by-tolerance 120 ∷ []) ≡ millimetres-at-120)
     × (run (tenfold-record lent) (by-tolerance 120 ∷ by-tolerance 60001 ∷ by-days 7 ∷ []) ≡ millimetres-at-120-and-250)
     × (all-answered (tenfold-record lent) (by-tolerance 120 ∷ by-tolerance 60001 ∷ by-days 7 ∷ []) ≡ gives 3 ∷ turns-away 10 ∷ gives 1 ∷ [])
-unfolding tenfold-record tenfold-mark all-answered run thinned-record new-mark last-row thinning thin thin-span furthest sooner every but-last last-of deviation allowance first sentence some-outside some-early-after some-early of-ends kind-of fix-from fix-at each number-at signed unsigned bytes-of fix-to fix-bytes all-bytes header-bytes record-bytes
+unfolding tenfold-record tenfold-mark all-answered run thinned-record new-mark last-row thinning thin-each stretches joined thin thin-span furthest sooner every but-last last-of deviation allowance first sentence some-outside some-other-silence some-early-after some-early of-ends kind-of fix-from fix-at each number-at signed unsigned bytes-of fix-to fix-bytes all-bytes header-bytes record-bytes
 millimetres-left = (refl, refl, refl)

@@ -1,7 +1,7 @@
 -- TRAILS WORKED BY HAND. Document 01: "Fixes as (t, x, y), positions from 0. All twelve are to be shown of the definitions by one shared statement over
--- a list of them". The list is `rows`, the line below the table is `rows-below`, and `millimetre-rows` has those of kind 2. The statement is `Holds` of each row,
--- and `worked`, `worked-below` and `worked-in-millimetres` prove it. Every row speaks of a record's bytes and of the definitions that the contracts of the calls
--- cite.
+-- a list of them". The list is `rows`, the line below the table is `rows-below`; `millimetre-rows` has those of kind 2 and `silence-rows` those of kind 3. The
+-- statement is `Holds` of each row, and `worked`, `worked-below`, `worked-in-millimetres` and `worked-with-silences` prove it. Every row speaks of a record's bytes
+-- and of the definitions that the contracts of the calls cite.
 use mathlib.Core.Path.{_≡_, refl}
 use mathlib.Core.List.{List, [], _∷_, _++_, map}
 use mathlib.Core.Option.{Option, some, none}
@@ -15,14 +15,15 @@ use Rattle.distance.specs.Distance.{deviation, allowance}
 use Rattle.distance.specs.Box.{Box, box-with}
 use Rattle.distance.specs.Tenfold.{tenfold-fix}
 use Rattle.distance.specs.Place.{own}
+use Rattle.distance.specs.Silence.{silence-from, in-silence}
 use Rattle.distance.specs.Rounding.{half-up, with-sign-of, rounded}
 use Rattle.format.specs.Bytes.{number-at, bytes-of, signed, unsigned}
-use Rattle.format.specs.Kinds.{Kind, trail, millimetre-trail}
+use Rattle.format.specs.Kinds.{Kind, trail, millimetre-trail, silence-trail}
 use Rattle.format.specs.Format.{kind-of, never, mark-field, record-length, fixes, fix-from, fix-at, each, fix-to, fix-bytes, all-bytes, header-bytes, record-bytes}
-use Rattle.record.specs.Checks.{first, sentence, some-outside, some-early, some-early-after, of-ends, read-refusal}
+use Rattle.record.specs.Checks.{first, sentence, some-outside, some-other-silence, some-early, some-early-after, of-ends, read-refusal}
 use Rattle.record.specs.Answers.{Answer, gives, turns-away, answer, SameAnswer}
 use Rattle.writing.specs.Writing.{write-refusal, written}
-use Rattle.thinning.specs.Thinning.{sooner, furthest, every, but-last, thin-span, thin, thinning}
+use Rattle.thinning.specs.Thinning.{sooner, furthest, every, but-last, thin-span, thin, joined, stretches, thin-each, thinning}
 use Rattle.aging.specs.Aging.{by-tolerance, left-by, answered, new-mark, thinned-record}
 use Rattle.legs.specs.declared.Fraction.{Fraction}
 use Rattle.moment.specs.Moment.{Standing, on-leg, moment-from, at-moment, place-answer}
@@ -97,12 +98,15 @@ Entry (read m) = Unit
 pub data WorkedRow : Type 0 where
   row-of : Kind → List Fix → (q : Question) → Answer (Entry q) → WorkedRow
 
--- one of document 01, in centimetres, and one of document 02, item 8, in millimetres
+-- one of document 01, in centimetres, and of document 02 one of item 8, in millimetres, and one of item 5, with silences
 abbrev pub row : List Fix → (q : Question) → Answer (Entry q) → WorkedRow
 row = row-of trail
 
 abbrev pub millimetre-row : List Fix → (q : Question) → Answer (Entry q) → WorkedRow
 millimetre-row = row-of millimetre-trail
+
+abbrev pub silence-row : List Fix → (q : Question) → Answer (Entry q) → WorkedRow
+silence-row = row-of silence-trail
 
 -- ---- WHAT A ROW SAYS
 -- The fixes of a trail at these positions.
@@ -132,7 +136,11 @@ AllHold (r ∷ l) = Holds r × AllHold l
 -- ---- how rows are written
 -- (t, x, y), where no number is negative
 abbrev pub fix : (t x y : ℕ) → Fix
-fix t x y = record { t = t; x = pos x; y = pos y }
+fix t x y = record { t = t; x = pos x; y = pos y; silence = 0 }
+
+-- .. with silence after it
+abbrev pub silent-fix : (t x y : ℕ) → Fix
+silent-fix t x y = record { t = t; x = pos x; y = pos y; silence = 1 }
 
 abbrev pub keeps : (positions : List ℕ) (count mark : Option ℕ) → Answer Kept
 keeps ks c m = gives (record { positions = ks; count-given = c; mark-given = m })
@@ -158,10 +166,10 @@ abbrev pub trail-h : List Fix
 trail-h = fix 0 0 0 ∷ fix 10 20 0 ∷ fix 20 20 0 ∷ fix 30 0 0 ∷ []
 
 abbrev pub trail-k : List Fix
-trail-k = fix 0 0 0 ∷ record { t = 10; x = pos 5; y = minus 5 } ∷ []
+trail-k = fix 0 0 0 ∷ record { t = 10; x = pos 5; y = minus 5; silence = 0 } ∷ []
 
 abbrev pub image-k : List Fix
-image-k = fix 0 0 0 ∷ record { t = 10; x = minus 5; y = pos 5 } ∷ []
+image-k = fix 0 0 0 ∷ record { t = 10; x = minus 5; y = pos 5; silence = 0 } ∷ []
 
 abbrev pub trail-l : List Fix
 trail-l = fix 0 0 0 ∷ fix 10 100 0 ∷ []
@@ -237,7 +245,7 @@ tenfold l = map tenfold-fix l
 -- 879,582,458,880,000,000,000, which is 47·2⁶⁴ + 12,585,487,415,651,074,048. At 60,000 the allowance is 15,461,410,410,000,000,000: above what one word would have
 -- left of that sum.
 abbrev pub corners : List Fix
-corners = record { t = 0; x = minus 160000; y = pos 160000 } ∷ record { t = 1; x = pos 160000; y = minus 160000 } ∷ record { t = 65535; x = minus 160000; y = pos 160000 } ∷ []
+corners = record { t = 0; x = minus 160000; y = pos 160000; silence = 0 } ∷ record { t = 1; x = pos 160000; y = minus 160000; silence = 0 } ∷ record { t = 65535; x = minus 160000; y = pos 160000; silence = 0 } ∷ []
 
 -- of its inner fixes the second is the furthest: (160,000·65,535)² = 25,599,218,755·2³² + 4,125,163,520, and of the first (159,983·65,535)² = 25,593,779,210·2³² +
 -- 4,148,952,865, which has the greater low word. Split at the first, the second would go.
@@ -264,10 +272,48 @@ millimetre-rows =
     ∷ millimetre-row trail-c (read 60000) nothing-refused
     ∷ millimetre-row trail-c (read 60001) (turns-away 6)
     -- "places −160,000 to 160,000"
-    ∷ millimetre-row (record { t = 0; x = pos 160000; y = minus 160000 } ∷ []) write nothing-refused
-    ∷ millimetre-row (record { t = 0; x = pos 160001; y = pos 0 } ∷ []) write (turns-away 7)
-    ∷ millimetre-row (record { t = 0; x = pos 160000; y = minus 160000 } ∷ []) (read never) nothing-refused
-    ∷ millimetre-row (record { t = 0; x = pos 0; y = minus 160001 } ∷ []) (read never) (turns-away 7)
+    ∷ millimetre-row (record { t = 0; x = pos 160000; y = minus 160000; silence = 0 } ∷ []) write nothing-refused
+    ∷ millimetre-row (record { t = 0; x = pos 160001; y = pos 0; silence = 0 } ∷ []) write (turns-away 7)
+    ∷ millimetre-row (record { t = 0; x = pos 160000; y = minus 160000; silence = 0 } ∷ []) (read never) nothing-refused
+    ∷ millimetre-row (record { t = 0; x = pos 0; y = minus 160001; silence = 0 } ∷ []) (read never) (turns-away 7)
+    ∷ []
+
+-- ---- SILENCES. Document 02, item 5: kind 3, with silence where a fix says so.
+-- two straight lines with a silence between them, and trails k and l with silence after their first fix
+abbrev pub parted : List Fix
+parted = fix 0 0 0 ∷ fix 10 100 0 ∷ silent-fix 20 200 0 ∷ fix 30 0 0 ∷ fix 40 100 0 ∷ fix 50 200 0 ∷ []
+
+abbrev pub silent-k : List Fix
+silent-k = silent-fix 0 0 0 ∷ record { t = 10; x = pos 5; y = minus 5; silence = 0 } ∷ []
+
+abbrev pub silent-l : List Fix
+silent-l = silent-fix 0 0 0 ∷ fix 10 100 0 ∷ []
+
+abbrev pub silence-rows : List WorkedRow
+silence-rows =
+    -- "both ends of a silence are always kept, and each stretch between silences is thinned by itself, the counts added"
+    silence-row parted (age-at (0 ∷ [])) (keeps (0 ∷ 2 ∷ 3 ∷ 5 ∷ []) (some 2) (some 0))
+    ∷ silence-row parted (age-at (32000 ∷ [])) (keeps (0 ∷ 2 ∷ 3 ∷ 5 ∷ []) (some 2) (some 32000))
+    -- "in demand 3's lists too": h's trail with silence in its midst, where every stretch has its two ends alone, and without, as of kind 1
+    ∷ silence-row (fix 0 0 0 ∷ silent-fix 10 20 0 ∷ fix 20 20 0 ∷ fix 30 0 0 ∷ []) (age-at (25 ∷ 12 ∷ [])) (keeps (0 ∷ 1 ∷ 2 ∷ 3 ∷ []) (some 0) (some 25))
+    ∷ silence-row trail-h (age-at (25 ∷ 12 ∷ [])) (keeps (0 ∷ 3 ∷ []) none (some 25))
+    -- 21 "if the moment is strictly inside a silence", and not at its two ends
+    ∷ silence-row silent-k (place-at 1 0) (turns-away 21)
+    ∷ silence-row silent-k (place-at 0 0) (stands-at (pos 0) (pos 0) (pos 10000) (pos 0) (pos 0))
+    ∷ silence-row silent-k (place-at 10 0) (stands-at (pos 50000) (minus 50000) (pos 10000) (pos 5) (minus 5))
+    -- "For crossings [..] only the two ends of a silent leg count."
+    ∷ silence-row silent-l (cross box-l 0 10) no-crossing
+    ∷ silence-row silent-l (cross (box-with (pos 0) (pos 40) (minus 5) (pos 5)) 0 10) (yes-at 0 1)
+    ∷ silence-row silent-l (cross (box-with (pos 33) (pos 100) (minus 5) (pos 5)) 0 10) (yes-at 10 1)
+    ∷ silence-row silent-l (cross (box-with (pos 0) (pos 100) (minus 5) (pos 5)) 1 9) no-crossing
+    -- 20 "if a silence byte is neither 0 nor 1 or the last fix has 1"
+    ∷ silence-row (record { t = 0; x = pos 0; y = pos 0; silence = 2 } ∷ fix 1 0 0 ∷ []) write (turns-away 20)
+    ∷ silence-row (record { t = 0; x = pos 0; y = pos 0; silence = 2 } ∷ fix 1 0 0 ∷ []) (read never) (turns-away 20)
+    ∷ silence-row (fix 0 0 0 ∷ silent-fix 1 0 0 ∷ []) write (turns-away 20)
+    ∷ silence-row (fix 0 0 0 ∷ silent-fix 1 0 0 ∷ []) (read never) (turns-away 20)
+    -- "directly after 9"
+    ∷ silence-row (silent-fix 0 0 0 ∷ silent-fix 65536 0 0 ∷ []) (read never) (turns-away 9)
+    ∷ silence-row (silent-fix 0 0 0 ∷ fix 65535 0 0 ∷ []) write nothing-refused
     ∷ []
 
 -- ---- all by computation, row by row
@@ -276,7 +322,7 @@ _and_ : {A B : Type 0} → A → B → A × B
 a and b = (a, b)
 
 pub worked : AllHold rows
-unfolding thinned-record new-mark thinning thin thin-span furthest sooner every but-last last-of deviation allowance first sentence some-outside some-early-after some-early of-ends kind-of fix-from fix-at each number-at signed unsigned bytes-of fix-to fix-bytes all-bytes header-bytes record-bytes at-moment moment-from on-leg own rounded with-sign-of half-up first-crossing first-from leg-first leg-times axis-times first-of later-of earlier-of
+unfolding thinned-record new-mark thinning thin-each stretches joined thin thin-span furthest sooner every but-last last-of deviation allowance first sentence some-outside some-other-silence some-early-after some-early of-ends kind-of fix-from fix-at each number-at signed unsigned bytes-of fix-to fix-bytes all-bytes header-bytes record-bytes in-silence silence-from at-moment moment-from on-leg own rounded with-sign-of half-up first-crossing first-from leg-first leg-times axis-times first-of later-of earlier-of
 worked =
     (refl, refl, tt)
     and (refl, refl, tt)
@@ -293,7 +339,7 @@ worked =
     and tt
 
 pub worked-below : AllHold rows-below
-unfolding thinned-record new-mark thinning thin thin-span furthest sooner every but-last last-of deviation allowance first sentence some-outside some-early-after some-early of-ends kind-of fix-from fix-at each number-at signed unsigned bytes-of fix-to fix-bytes all-bytes header-bytes record-bytes at-moment moment-from on-leg own rounded with-sign-of half-up first-crossing first-from leg-first leg-times axis-times first-of later-of earlier-of
+unfolding thinned-record new-mark thinning thin-each stretches joined thin thin-span furthest sooner every but-last last-of deviation allowance first sentence some-outside some-other-silence some-early-after some-early of-ends kind-of fix-from fix-at each number-at signed unsigned bytes-of fix-to fix-bytes all-bytes header-bytes record-bytes in-silence silence-from at-moment moment-from on-leg own rounded with-sign-of half-up first-crossing first-from leg-first leg-times axis-times first-of later-of earlier-of
 worked-below =
     record { same-value = refl; at-least = omega arith; at-most = omega arith }
     and tt
@@ -313,7 +359,7 @@ worked-below =
     and tt
 
 pub worked-in-millimetres : AllHold millimetre-rows
-unfolding thinned-record new-mark thinning thin thin-span furthest sooner every but-last last-of deviation allowance first sentence some-outside some-early-after some-early of-ends kind-of fix-from fix-at each number-at signed unsigned bytes-of fix-to fix-bytes all-bytes header-bytes record-bytes at-moment moment-from on-leg own rounded with-sign-of half-up first-crossing first-from leg-first leg-times axis-times first-of later-of earlier-of
+unfolding thinned-record new-mark thinning thin-each stretches joined thin thin-span furthest sooner every but-last last-of deviation allowance first sentence some-outside some-other-silence some-early-after some-early of-ends kind-of fix-from fix-at each number-at signed unsigned bytes-of fix-to fix-bytes all-bytes header-bytes record-bytes in-silence silence-from at-moment moment-from on-leg own rounded with-sign-of half-up first-crossing first-from leg-first leg-times axis-times first-of later-of earlier-of
 worked-in-millimetres =
     (refl, refl, tt)
     and (refl, refl, tt)
@@ -332,4 +378,26 @@ worked-in-millimetres =
     and refl
     and tt
     and refl
+    and tt
+
+pub worked-with-silences : AllHold silence-rows
+unfolding thinned-record new-mark thinning thin-each stretches joined thin thin-span furthest sooner every but-last last-of deviation allowance first sentence some-outside some-other-silence some-early-after some-early of-ends kind-of fix-from fix-at each number-at signed unsigned bytes-of fix-to fix-bytes all-bytes header-bytes record-bytes in-silence silence-from at-moment moment-from on-leg own rounded with-sign-of half-up first-crossing first-from leg-first leg-times axis-times first-of later-of earlier-of
+worked-with-silences =
+    (refl, refl, refl)
+    and (refl, refl, refl)
+    and (refl, refl, refl)
+    and (refl, tt, refl)
+    and refl
+    and refl
+    and refl
+    and tt
+    and record { same-value = refl; at-least = omega arith; at-most = omega arith }
+    and record { same-value = refl; at-least = omega arith; at-most = omega arith }
+    and tt
+    and refl
+    and refl
+    and refl
+    and refl
+    and refl
+    and tt
     and tt

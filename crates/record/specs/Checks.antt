@@ -11,6 +11,8 @@ use lib.IntN.{ℤ, pos, negℤ}
 use lib.Signed.{ltZ}
 use Rattle.distance.specs.Fix.{Fix, last-of}
 use Rattle.distance.specs.Distance.{seconds}
+use Rattle.distance.specs.Place.{moment}
+use Rattle.distance.specs.Silence.{silent, in-silence}
 use Rattle.distance.specs.Box.{Box}
 use Rattle.format.specs.Kinds.{Kind, kinds, coded}
 use Rattle.format.specs.Format.{never, length-field, kind-field, mark-field, count-field, kind-of, record-length, fixes}
@@ -72,6 +74,18 @@ of-ends test (f ∷ l) = test f (last-of f l)
 abbrev pub too-long : Fix → Fix → Bool
 too-long f l = ltZ (pos 65535) (seconds f l)
 
+-- "a silence byte is neither 0 nor 1"
+abbrev pub other-silence : Fix → Bool
+other-silence f = not (eqb (f .silence) 0 || eqb (f .silence) 1)
+
+unfoldable pub some-other-silence : List Fix → Bool
+some-other-silence [] = false
+some-other-silence (f ∷ l) = other-silence f || some-other-silence l
+
+-- "the last fix has 1"
+abbrev pub last-silent : Fix → Fix → Bool
+last-silent f l = silent l
+
 -- "The asked moment is before the first fix or after the last", s + m/1000 seconds.
 abbrev pub moment-outside : (s m : ℕ) → Fix → Fix → Bool
 moment-outside s m f l = ltb (1000 * s + m) (1000 * f .t) || ltb (1000 * l .t) (1000 * s + m)
@@ -80,7 +94,7 @@ moment-outside s m f l = ltb (1000 * s + m) (1000 * f .t) || ltb (1000 * l .t) (
 abbrev pub second-outside : ℕ → Fix → Fix → Bool
 second-outside s f l = ltb s (f .t) || ltb (l .t) s
 
--- ---- the fifteen checks, and their numbers
+-- ---- the checks, and their numbers: document 01's fifteen, and those that document 02 adds
 pub data Check : Type 0 where
   few-bytes : Check
   other-kind : Check
@@ -97,6 +111,8 @@ pub data Check : Type 0 where
   bad-window : Check
   bad-box : Check
   short-output : Check
+  bad-silence : Check
+  moment-in-silence : Check
 
 abbrev pub number : Check → ℕ
 number few-bytes = 1
@@ -114,8 +130,11 @@ number bad-moment = 12
 number bad-window = 13
 number bad-box = 14
 number short-output = 15
+number bad-silence = 20
+number moment-in-silence = 21
 
--- ---- the sentences, each as document 01 has it for its kind, 1. Document 02, item 8: "Checks 2, 4, 6, 7, 10, 14, 15 [..] read the record's own limits."
+-- ---- the sentences, each as document 01 has it for its kind, 1. Document 02, item 8: "Checks 2, 4, 6, 7, 10, 14, 15 [..] read the record's own limits." Item 5:
+-- "Checks 2, 4 and 15 take the new kind and length."
 unfoldable pub sentence : Kind → Asked → Check → Bool
 -- 1. "The lent bytes are fewer than 10."
 sentence K a few-bytes = ltb (a .lent) 10
@@ -152,22 +171,26 @@ sentence K a bad-box =
     || (outside (K .limit) (b .x-high) || (outside (K .limit) (b .y-low) || (outside (K .limit) (b .y-high) || (ltZ (b .x-high) (b .x-low) || ltZ (b .y-high) (b .y-low)))))
 -- 15. "The output has fewer than 10 + 8n bytes."
 sentence K a short-output = ltb (a .given .output) (record-length K (a .count))
+-- 20. "a silence byte is neither 0 nor 1 or the last fix has 1". Kinds without that byte say 0, and are never turned away by it (`no-silence-refused` of Laws/Silence.antt).
+sentence K a bad-silence = some-other-silence (a .trail-fixes) || of-ends last-silent (a .trail-fixes)
+-- 21. "the moment is strictly inside a silence"
+sentence K a moment-in-silence = in-silence (a .trail-fixes) (moment (a .given .second) (a .given .thousandths))
 
--- ---- THE ORDER
+-- ---- THE ORDER. Document 02, item 5: "20, directly after 9 and before 16, [..]; 21, after 12".
 abbrev pub order : List Check
 order =
-    few-bytes ∷ other-kind ∷ bad-count ∷ bad-length ∷ short-record ∷ bad-mark ∷ misplaced ∷ unordered ∷ long-span ∷ high-tolerance
-    ∷ bad-thousandths ∷ bad-moment ∷ bad-window ∷ bad-box ∷ short-output ∷ []
+    few-bytes ∷ other-kind ∷ bad-count ∷ bad-length ∷ short-record ∷ bad-mark ∷ misplaced ∷ unordered ∷ long-span ∷ bad-silence ∷ high-tolerance
+    ∷ bad-thousandths ∷ bad-moment ∷ moment-in-silence ∷ bad-window ∷ bad-box ∷ short-output ∷ []
 
 -- Those of a record's head, and those of its fixes.
 abbrev pub head-checks : List Check
 head-checks = few-bytes ∷ other-kind ∷ bad-count ∷ bad-length ∷ short-record ∷ bad-mark ∷ []
 
 abbrev pub fix-checks : List Check
-fix-checks = misplaced ∷ unordered ∷ long-span ∷ []
+fix-checks = misplaced ∷ unordered ∷ long-span ∷ bad-silence ∷ []
 
 -- "Aging makes checks 1 to 10, aging by days 1 to 9, the place question 1 to 9, 11, 12, the crossing 1 to 9, 13, 14, the reader and the listing 1 to
--- 9, the writer 3, 7, 8, 9, 15."
+-- 9, the writer 3, 7, 8, 9, 15." Document 02, item 5, puts 20 after 9 in each of them, and 21 after the place question's 12.
 pub data Operation : Type 0 where
   reading : Operation
   writing : Operation
@@ -176,16 +199,16 @@ pub data Operation : Type 0 where
   placing : Operation
   crossing : Operation
 
-abbrev pub to-nine : List ℕ → List ℕ
-to-nine l = 1 ∷ 2 ∷ 3 ∷ 4 ∷ 5 ∷ 6 ∷ 7 ∷ 8 ∷ 9 ∷ l
+abbrev pub of-record : List ℕ → List ℕ
+of-record l = 1 ∷ 2 ∷ 3 ∷ 4 ∷ 5 ∷ 6 ∷ 7 ∷ 8 ∷ 9 ∷ 20 ∷ l
 
 abbrev pub makes : Operation → List ℕ
-makes reading = to-nine []
-makes writing = 3 ∷ 7 ∷ 8 ∷ 9 ∷ 15 ∷ []
-makes aging = to-nine (10 ∷ [])
-makes aging-by-days = to-nine []
-makes placing = to-nine (11 ∷ 12 ∷ [])
-makes crossing = to-nine (13 ∷ 14 ∷ [])
+makes reading = of-record []
+makes writing = 3 ∷ 7 ∷ 8 ∷ 9 ∷ 20 ∷ 15 ∷ []
+makes aging = of-record (10 ∷ [])
+makes aging-by-days = of-record []
+makes placing = of-record (11 ∷ 12 ∷ 21 ∷ [])
+makes crossing = of-record (13 ∷ 14 ∷ [])
 
 abbrev pub member : ℕ → List ℕ → Bool
 member n [] = false

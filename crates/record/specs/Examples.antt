@@ -1,5 +1,5 @@
--- THE READER IN NUMBERS. Bytes, written out, and what document 01 says of them: the definitions and the code cannot be changed together without these
--- rows. Each line is computed.
+-- THE READER IN NUMBERS. Bytes, written out, and what document 01 and document 02's items 5 and 8 say of them: the definitions and the code cannot be changed
+-- together without these rows. Each line is computed.
 use mathlib.Core.Path.{_≡_, refl}
 use mathlib.Core.List.{List, [], _∷_}
 use mathlib.Core.Option.{Option, some, none}
@@ -14,15 +14,15 @@ use Rattle.distance.specs.Laws.All.{all-none, all-more}
 use Rattle.distance.specs.Laws.Clock.{computed-stays}
 use Rattle.format.specs.Bytes.{number-at, bytes-of, signed, unsigned}
 use Rattle.format.specs.Format.{kind-of, fix-from, fix-at, each, fix-to, fix-bytes, all-bytes, header-bytes, record-bytes}
-use Rattle.format.specs.Examples.{document-bytes, millimetre-bytes}
+use Rattle.format.specs.Examples.{document-bytes, millimetre-bytes, silence-bytes}
 use Rattle.format.specs.Laws.RoundTrip.{AreBytes, all-below, computed-bytes}
-use Rattle.record.specs.Checks.{first, sentence, some-outside, some-early-after, some-early, of-ends, read-refusal}
+use Rattle.record.specs.Checks.{first, sentence, some-outside, some-other-silence, some-early-after, some-early, of-ends, read-refusal}
 use Rattle.record.specs.Answers.{gives, turns-away}
 use Rattle.record.specs.Moved.{Movable}
 use Rattle.record.specs.Tenfold.{tenfold-mark, tenfold-record, Tenfold}
 use Rattle.record.specs.Laws.Tenfold.{tenfold-never, tenfold-marked}
 use Rattle.record.specs.Laws.First.{some-none}
-use Rattle.record.specs.Reading.{filled, stands, yields, moves, begins, told-refusal, unit-answer, read-answer, times-read, xs-read, ys-read}
+use Rattle.record.specs.Reading.{filled, stands, yields, moves, begins, told-refusal, unit-answer, read-answer, times-read, xs-read, ys-read, silences-read}
 
 -- Document 01's 18 bytes with x = 16,001, and with the mark 32,001.
 abbrev pub misplaced-bytes : List ℕ
@@ -31,7 +31,16 @@ misplaced-bytes = 18 ∷ 0 ∷ 0 ∷ 0 ∷ 1 ∷ 0 ∷ 255 ∷ 255 ∷ 1 ∷ 0 �
 abbrev pub badly-marked-bytes : List ℕ
 badly-marked-bytes = 18 ∷ 0 ∷ 0 ∷ 0 ∷ 1 ∷ 0 ∷ 1 ∷ 125 ∷ 1 ∷ 0 ∷ 232 ∷ 3 ∷ 0 ∷ 0 ∷ 255 ∷ 255 ∷ 2 ∷ 0 ∷ []
 
--- Lent bytes, and the number of their refusal: a record's length (4 bytes), kind (2), mark (2) and count (2), and the fixes of 8 bytes.
+-- A record of kind 3 with document 01's fix, under a mark of these two bytes and with this silence; and one with a second fix a second later, the place of the
+-- first with this x.
+abbrev pub one-silence : (low high silence : ℕ) → List ℕ
+one-silence low high silence = 19 ∷ 0 ∷ 0 ∷ 0 ∷ 3 ∷ 0 ∷ low ∷ high ∷ 1 ∷ 0 ∷ 232 ∷ 3 ∷ 0 ∷ 0 ∷ 255 ∷ 255 ∷ 2 ∷ 0 ∷ silence ∷ []
+
+abbrev pub two-silences : (x-low x-high first last : ℕ) → List ℕ
+two-silences x-low x-high first last =
+    28 ∷ 0 ∷ 0 ∷ 0 ∷ 3 ∷ 0 ∷ 255 ∷ 255 ∷ 2 ∷ 0 ∷ 5 ∷ 0 ∷ 0 ∷ 0 ∷ x-low ∷ x-high ∷ 0 ∷ 0 ∷ first ∷ 6 ∷ 0 ∷ 0 ∷ 0 ∷ 0 ∷ 0 ∷ 0 ∷ 0 ∷ last ∷ []
+
+-- Lent bytes, and the number of their refusal: a record's length (4 bytes), kind (2), mark (2) and count (2), and the fixes.
 abbrev pub read-rows : List (List ℕ × Option ℕ)
 read-rows =
     -- document 01's 18 bytes: one fix, (1000, −1, 2), never thinned
@@ -42,9 +51,9 @@ read-rows =
     ∷ ([], some 1)
     ∷ (18 ∷ 0 ∷ 0 ∷ 0 ∷ 1 ∷ 0 ∷ 255 ∷ 255 ∷ 1 ∷ [], some 1)
     ∷ (18 ∷ 0 ∷ 0 ∷ 0 ∷ 1 ∷ 0 ∷ 255 ∷ 255 ∷ 1 ∷ 0 ∷ [], some 5)
-    -- 2. "The kind isn't 1." (nor 2): 0, 3, and 257 and 258, whose lower bytes are 1 and 2
+    -- 2. "The kind isn't 1." (nor 2 nor 3): 0, 4, and 257 and 258, whose lower bytes are 1 and 2
     ∷ (18 ∷ 0 ∷ 0 ∷ 0 ∷ 0 ∷ 0 ∷ 255 ∷ 255 ∷ 1 ∷ 0 ∷ 232 ∷ 3 ∷ 0 ∷ 0 ∷ 255 ∷ 255 ∷ 2 ∷ 0 ∷ [], some 2)
-    ∷ (18 ∷ 0 ∷ 0 ∷ 0 ∷ 3 ∷ 0 ∷ 255 ∷ 255 ∷ 1 ∷ 0 ∷ 232 ∷ 3 ∷ 0 ∷ 0 ∷ 255 ∷ 255 ∷ 2 ∷ 0 ∷ [], some 2)
+    ∷ (18 ∷ 0 ∷ 0 ∷ 0 ∷ 4 ∷ 0 ∷ 255 ∷ 255 ∷ 1 ∷ 0 ∷ 232 ∷ 3 ∷ 0 ∷ 0 ∷ 255 ∷ 255 ∷ 2 ∷ 0 ∷ [], some 2)
     ∷ (18 ∷ 0 ∷ 0 ∷ 0 ∷ 2 ∷ 1 ∷ 255 ∷ 255 ∷ 1 ∷ 0 ∷ 232 ∷ 3 ∷ 0 ∷ 0 ∷ 255 ∷ 255 ∷ 2 ∷ 0 ∷ [], some 2)
     ∷ (18 ∷ 0 ∷ 0 ∷ 0 ∷ 1 ∷ 1 ∷ 255 ∷ 255 ∷ 1 ∷ 0 ∷ 232 ∷ 3 ∷ 0 ∷ 0 ∷ 255 ∷ 255 ∷ 2 ∷ 0 ∷ [], some 2)
     -- 3. "The count is 0 or above 4,096.": 0, and 4,097 with the length that goes with it; 4,096 is not, and such a head alone is cut off
@@ -77,7 +86,7 @@ read-rows =
     ∷ (26 ∷ 0 ∷ 0 ∷ 0 ∷ 1 ∷ 0 ∷ 255 ∷ 255 ∷ 2 ∷ 0 ∷ 5 ∷ 0 ∷ 0 ∷ 0 ∷ 0 ∷ 0 ∷ 0 ∷ 0 ∷ 4 ∷ 0 ∷ 1 ∷ 0 ∷ 0 ∷ 0 ∷ 0 ∷ 0 ∷ [], none)
     ∷ (26 ∷ 0 ∷ 0 ∷ 0 ∷ 1 ∷ 0 ∷ 255 ∷ 255 ∷ 2 ∷ 0 ∷ 5 ∷ 0 ∷ 0 ∷ 0 ∷ 0 ∷ 0 ∷ 0 ∷ 0 ∷ 5 ∷ 0 ∷ 1 ∷ 0 ∷ 0 ∷ 0 ∷ 0 ∷ 0 ∷ [], some 9)
     -- the first that holds is said: 2 and 3; 5 and 6; 6 and 7; 7 and 8; 8 and 9
-    ∷ (10 ∷ 0 ∷ 0 ∷ 0 ∷ 3 ∷ 0 ∷ 255 ∷ 255 ∷ 0 ∷ 0 ∷ [], some 2)
+    ∷ (10 ∷ 0 ∷ 0 ∷ 0 ∷ 4 ∷ 0 ∷ 255 ∷ 255 ∷ 0 ∷ 0 ∷ [], some 2)
     ∷ (18 ∷ 0 ∷ 0 ∷ 0 ∷ 1 ∷ 0 ∷ 1 ∷ 125 ∷ 1 ∷ 0 ∷ [], some 5)
     ∷ (18 ∷ 0 ∷ 0 ∷ 0 ∷ 1 ∷ 0 ∷ 1 ∷ 125 ∷ 1 ∷ 0 ∷ 232 ∷ 3 ∷ 0 ∷ 0 ∷ 129 ∷ 62 ∷ 2 ∷ 0 ∷ [], some 6)
     ∷ (26 ∷ 0 ∷ 0 ∷ 0 ∷ 1 ∷ 0 ∷ 255 ∷ 255 ∷ 2 ∷ 0 ∷ 5 ∷ 0 ∷ 0 ∷ 0 ∷ 0 ∷ 0 ∷ 0 ∷ 0 ∷ 5 ∷ 0 ∷ 0 ∷ 0 ∷ 129 ∷ 62 ∷ 0 ∷ 0 ∷ [], some 7)
@@ -96,11 +105,27 @@ read-rows =
     ∷ (millimetre-bytes, none)
     ∷ (22 ∷ 0 ∷ 0 ∷ 0 ∷ 2 ∷ 0 ∷ 255 ∷ 255 ∷ 1 ∷ 0 ∷ 232 ∷ 3 ∷ 0 ∷ 0 ∷ 1 ∷ 113 ∷ 2 ∷ 0 ∷ 2 ∷ 0 ∷ 0 ∷ 0 ∷ [], some 7)
     ∷ (22 ∷ 0 ∷ 0 ∷ 0 ∷ 2 ∷ 0 ∷ 255 ∷ 255 ∷ 1 ∷ 0 ∷ 232 ∷ 3 ∷ 0 ∷ 0 ∷ 2 ∷ 0 ∷ 0 ∷ 0 ∷ 255 ∷ 142 ∷ 253 ∷ 255 ∷ [], some 7)
+    -- kind 3, by kind 1's limits: 4. "its length is 10 + 9n": 18 is not one, 19 is; 4,096 fixes are 36,874 bytes, and such a head alone is cut off
+    ∷ (silence-bytes, none)
+    ∷ (18 ∷ 0 ∷ 0 ∷ 0 ∷ 3 ∷ 0 ∷ 255 ∷ 255 ∷ 1 ∷ 0 ∷ 232 ∷ 3 ∷ 0 ∷ 0 ∷ 255 ∷ 255 ∷ 2 ∷ 0 ∷ 0 ∷ [], some 4)
+    ∷ (one-silence 255 255 0, none)
+    ∷ (10 ∷ 144 ∷ 0 ∷ 0 ∷ 3 ∷ 0 ∷ 255 ∷ 255 ∷ 0 ∷ 16 ∷ [], some 5)
+    -- 6. and 7. by the limits of kind 1: the mark 32,001, and x = 16,001
+    ∷ (one-silence 1 125 0, some 6)
+    ∷ (two-silences 129 62 1 0, some 7)
+    -- 20. "a silence byte is neither 0 nor 1": 2 and 255, of the first fix and of the last; "or the last fix has 1"
+    ∷ (two-silences 0 0 2 0, some 20)
+    ∷ (two-silences 0 0 255 0, some 20)
+    ∷ (two-silences 0 0 0 2, some 20)
+    ∷ (two-silences 0 0 1 1, some 20)
+    ∷ (one-silence 255 255 1, some 20)
+    -- 9 before 20
+    ∷ (28 ∷ 0 ∷ 0 ∷ 0 ∷ 3 ∷ 0 ∷ 255 ∷ 255 ∷ 2 ∷ 0 ∷ 5 ∷ 0 ∷ 0 ∷ 0 ∷ 0 ∷ 0 ∷ 0 ∷ 0 ∷ 2 ∷ 5 ∷ 0 ∷ 1 ∷ 0 ∷ 0 ∷ 0 ∷ 0 ∷ 0 ∷ 1 ∷ [], some 9)
     ∷ []
 
 -- All rows in one statement.
 pub reader-says : Computes (read-refusal) read-rows
-unfolding kind-of first sentence some-outside some-early-after some-early last-of of-ends fix-from fix-at each number-at signed
+unfolding kind-of first sentence some-outside some-other-silence some-early-after some-early last-of of-ends fix-from fix-at each number-at signed
 reader-says = refl
 
 -- What an operation that makes the reader's checks too has of the rows that the reader refuses: `f` of the bytes and the number.
@@ -110,13 +135,13 @@ on-refused f ((b, none) ∷ rows) = on-refused f rows
 on-refused f ((b, some k) ∷ rows) = f b k ∷ on-refused f rows
 
 -- ---- a reader over document 01's 18 bytes yields "fix 1000 -1 2", and then none
-pub document-yields : yields document-bytes 0 ∷ yields document-bytes 1 ∷ [] ≡ some (record { t = 1000; x = minus 1; y = pos 2 }) ∷ none ∷ []
+pub document-yields : yields document-bytes 0 ∷ yields document-bytes 1 ∷ [] ≡ some (record { t = 1000; x = minus 1; y = pos 2; silence = 0 }) ∷ none ∷ []
 unfolding kind-of yields stands fix-from fix-at number-at signed
 document-yields = refl
 
 -- .. it begins on fix 0, moves to 1 and stays there; over the first 17 of these bytes it begins past every fix, says 5 and yields none
 pub document-moves : begins document-bytes ∷ moves document-bytes 0 ∷ moves document-bytes 1 ∷ [] ≡ 0 ∷ 1 ∷ 1 ∷ []
-unfolding kind-of first sentence some-outside some-early-after some-early last-of of-ends fix-from fix-at each number-at signed moves stands
+unfolding kind-of first sentence some-outside some-other-silence some-early-after some-early last-of of-ends fix-from fix-at each number-at signed moves stands
 document-moves = refl
 
 pub refused-reader : (begins (take 17 document-bytes) ≡ 65536) × (told-refusal (take 17 document-bytes) 65536 ≡ some 5) × (yields (take 17 document-bytes) 65536 ≡ none)
@@ -125,7 +150,7 @@ refused-reader = (refl, refl, refl)
 
 -- in which unit it yields them: so many make a centimetre
 pub units-told : unit-answer document-bytes ∷ unit-answer millimetre-bytes ∷ unit-answer (take 17 document-bytes) ∷ [] ≡ gives 1 ∷ gives 10 ∷ turns-away 5 ∷ []
-unfolding kind-of first sentence some-outside some-early-after some-early last-of of-ends fix-from fix-at each number-at signed
+unfolding kind-of first sentence some-outside some-other-silence some-early-after some-early last-of of-ends fix-from fix-at each number-at signed
 units-told = refl
 
 -- ---- all fixes at once: (5, 7, −8) and (6, −9, 10), into columns of no, one and three places; and of the same bytes less one nothing is read
@@ -139,15 +164,20 @@ pub two-read : (read-answer lent-two ≡ gives 2)
     × (times-read lent-two [] ≡ [])
     × (xs-read lent-two (pos 1 ∷ []) ≡ pos 7 ∷ [])
     × (ys-read lent-two (pos 1 ∷ pos 2 ∷ pos 3 ∷ []) ≡ minus 8 ∷ pos 10 ∷ pos 3 ∷ [])
-unfolding kind-of first sentence some-outside some-early-after some-early last-of of-ends fix-from fix-at each number-at signed filled
+unfolding kind-of first sentence some-outside some-other-silence some-early-after some-early last-of of-ends fix-from fix-at each number-at signed filled
 two-read = (refl, refl, refl, refl)
 
 pub none-read : (read-answer lent-short ≡ turns-away 5)
     × (times-read lent-short (1 ∷ 2 ∷ []) ≡ 1 ∷ 2 ∷ [])
     × (xs-read lent-short (pos 1 ∷ pos 2 ∷ []) ≡ pos 1 ∷ pos 2 ∷ [])
     × (ys-read lent-short (pos 1 ∷ pos 2 ∷ []) ≡ pos 1 ∷ pos 2 ∷ [])
-unfolding kind-of first sentence some-outside some-early-after some-early last-of of-ends fix-from fix-at each number-at signed filled
+unfolding kind-of first sentence some-outside some-other-silence some-early-after some-early last-of of-ends fix-from fix-at each number-at signed filled
 none-read = (refl, refl, refl, refl)
+
+-- .. and the silences of a record of kind 3, and of one without them
+pub silences-told : (silences-read silence-bytes (7 ∷ 8 ∷ 9 ∷ []) ≡ 1 ∷ 0 ∷ 9 ∷ []) × (silences-read lent-two (7 ∷ 8 ∷ 9 ∷ []) ≡ 0 ∷ 0 ∷ 9 ∷ [])
+unfolding kind-of first sentence some-outside some-other-silence some-early-after some-early last-of of-ends fix-from fix-at each number-at signed filled
+silences-told = (refl, refl)
 
 -- ---- BUFFERS WHOSE CLOCK IS MOVED, with all that the laws of it ask, so that nothing they ask is empty: document 01's 18 bytes, their fix moved to the last second
 -- of 32 bits and to the first; the same with x = 16,001, which 7 turns away; and with the mark 32,001, which 6 turns away, so that its time may leave 32 bits. Last
@@ -222,7 +252,7 @@ tenfold-records-computed = refl
 pub tenfold-rows : Tenfold (centimetre-record 255 255) (tenfold-record (centimetre-record 255 255))
     × Tenfold (centimetre-record 0 0) (tenfold-record (centimetre-record 0 0))
     × Tenfold (centimetre-record 112 23) (tenfold-record (centimetre-record 112 23))
-unfolding kind-of all-below first sentence some-outside some-early-after some-early last-of of-ends fix-from fix-at each number-at signed
+unfolding kind-of all-below first sentence some-outside some-other-silence some-early-after some-early last-of of-ends fix-from fix-at each number-at signed
 tenfold-rows = (
   tenfold-never (centimetre-record 255 255) (computed-bytes (centimetre-record 255 255) refl) (record { accepted = refl }) refl refl,
   tenfold-marked (centimetre-record 0 0) (computed-bytes (centimetre-record 0 0) refl) (record { accepted = refl }) refl (omega arith),

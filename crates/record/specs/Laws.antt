@@ -11,3 +11,4 @@ pub mod Changed
 pub mod Moved
 pub mod Tenfold
 pub mod Trail
+pub mod Silence

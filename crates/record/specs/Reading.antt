@@ -25,7 +25,7 @@ yields b k = cond (stands b k) (some (fix-at (kind-of b) b k)) none
 unfoldable pub moves : List ℕ → ℕ → ℕ
 moves b k = cond (stands b k) (suc k) k
 
--- Where a reader begins: on the first fix, if checks 1 to 9 accept the bytes. If they don't, it stands past every fix: no count of two bytes reaches
+-- Where a reader begins: on the first fix, if its checks accept the bytes. If they don't, it stands past every fix: no count of two bytes reaches
 -- this position, so it yields none, each time (`refused-yields-none` of Laws/Accepted.antt).
 abbrev pub past-every-fix : ℕ
 past-every-fix = 65536
@@ -45,8 +45,8 @@ told-refusal b at = cond (ltb at past-every-fix) none (read-refusal b)
 abbrev pub unit-answer : List ℕ → Answer ℕ
 unit-answer b = answer (read-refusal b) (kind-of b .per-centimetre)
 
--- ---- ALL FIXES AT ONCE, in order, into three lent columns: their times, x and y. "the reader and the listing [make checks] 1 to 9"; "A refusal is its
--- number and nothing more, with all lent bytes untouched".
+-- ---- ALL FIXES AT ONCE, in order, into four lent columns: their times, x, y and silences. "the reader and the listing [make checks] 1 to 9", and 20; "A
+-- refusal is its number and nothing more, with all lent bytes untouched".
 -- A column that values are put into from its first place on: as many as it holds, and its later places as they were.
 unfoldable pub filled : {A : Type 0} → (column values : List A) → List A
 filled column values = take (length column) values ++ drop (length values) column
@@ -59,6 +59,9 @@ xs-of = map (λ (f : Fix). f .x)
 
 abbrev pub ys-of : List Fix → List ℤ
 ys-of = map (λ (f : Fix). f .y)
+
+abbrev pub silences-of : List Fix → List ℕ
+silences-of = map (λ (f : Fix). f .silence)
 
 -- The answer is the record's count, however long the columns are, or the refusal ..
 abbrev pub read-answer : List ℕ → Answer ℕ
@@ -73,3 +76,6 @@ xs-read b column = unless (read-refusal b) column (filled column (xs-of (fixes b
 
 abbrev pub ys-read : List ℕ → (column : List ℤ) → List ℤ
 ys-read b column = unless (read-refusal b) column (filled column (ys-of (fixes b)))
+
+abbrev pub silences-read : List ℕ → (column : List ℕ) → List ℕ
+silences-read b column = unless (read-refusal b) column (filled column (silences-of (fixes b)))

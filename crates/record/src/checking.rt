@@ -1,18 +1,20 @@
-// The checks: 1 to 6 of a record's head, and 7 to 9 in one pass over its fixes.
+// The checks: 1 to 6 of a record's head, and 7 to 9 and 20 in one pass over its fixes.
 ghost use mathlib.Core.Path.{_≡_};
 ghost use Prim.Native.Nat.{_-_, _≤_};
 ghost use mathlib.Core.List.{List, [], _∷_, _++_};
 ghost use lib.ListN.{length};
 ghost use Rattle.distance.specs.Fix.{Fix as Plain, fixOf};
+ghost use Rattle.distance.specs.Silence.{silent};
 ghost use Rattle.format.specs.Kinds.{Kind as Layout, layout};
 ghost use Rattle.format.specs.Format.{record-length, fix-at, each};
-ghost use Rattle.record.specs.Checks.{Asked, sentence, first, fix-checks, head-refusal, read-refusal, outside, fix-outside};
+ghost use Rattle.record.specs.Checks.{Asked, sentence, first, fix-checks, head-refusal, read-refusal, outside, fix-outside, other-silence};
 ghost use Rattle.record.specs.Answers.{refused};
 ghost use Rattle.record.specs.Laws.Scan.{Scanned};
 use crate::Checked;
 use crate::Scan;
 use distance::Coordinate;
 use distance::Fix;
+use distance::silent;
 use format::Kind;
 use format::count_at;
 use format::fix_at;
@@ -42,6 +44,13 @@ fn fix_outside(f: Fix, limit: u32) -> bool
     outside(f.x, limit) | outside(f.y, limit)
 }
 
+fn other_silence(f: Fix) -> bool
+    ensures { λ r. ⌜ r ≡ other-silence (fixOf f) ⌝ }
+{
+    let s = f.silence;
+    !((s.0 == 0) | (s.0 == 1))
+}
+
 // The pass begins with the first fix ..
 pub fn scan_first(f: Fix, limit: u32) -> Scan
     ensures { λ r. ⌜ Scanned limit (fixOf f) [] r ⌝ }
@@ -50,8 +59,10 @@ pub fn scan_first(f: Fix, limit: u32) -> Scan
     Scan {
         outside: fix_outside(f, limit),
         early: false,
+        other: other_silence(f),
         first: t,
         last: t,
+        silent: silent(f),
     }
 }
 
@@ -65,12 +76,14 @@ pub fn scan_next(s: Scan, f: Fix, limit: u32) -> Scan
     Scan {
         outside: s.outside | fix_outside(f, limit),
         early: s.early | (t.0 <= last.0),
+        other: s.other | other_silence(f),
         first,
         last: t,
+        silent: silent(f),
     }
 }
 
-// .. and says the first of checks 7 to 9 that turns the fixes away.
+// .. and says the first of checks 7 to 9 and 20 that turns the fixes away.
 pub fn scan_says(s: Scan) -> Checked
     ensures { λ r. ⌜ ((K : Layout) (q : Asked) (a : Plain) (l : List Plain) → q .trail-fixes ≡ a ∷ l → Scanned (K .limit) a l s → refused r ≡ first (sentence K q) fix-checks) ⌝ }
 {
@@ -84,6 +97,9 @@ pub fn scan_says(s: Scan) -> Checked
     let last = s.last;
     if (first.0 as u64) + 65535 < (last.0 as u64) {
         return Checked::Refused(9);
+    }
+    if s.other | s.silent {
+        return Checked::Refused(20);
     }
     Checked::Accepted
 }
@@ -139,7 +155,7 @@ fn scan_all(b: &[u8], kind: Kind, n: usize) -> Scan
     s
 }
 
-// Checks 1 to 9, each of the whole record before the next.
+// Checks 1 to 9 and 20, each of the whole record before the next.
 pub fn check(b: &[u8]) -> Checked
     ensures { λ r. ⌜ refused r ≡ read-refusal (now (b .entry)) ⌝ }
 {

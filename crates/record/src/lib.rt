@@ -26,12 +26,15 @@ pub enum Checked {
     Refused(u8),
 }
 
-// What checks 7 to 9 ask of the fixes passed so far: was a place outside, was a time not later than the one before, and the first and last time.
+// What checks 7 to 9 and 20 ask of the fixes passed so far: was a place outside, was a time not later than the one before, was a silence byte neither 0 nor 1,
+// the first and the last time, and whether the last fix says that silence follows.
 pub struct Scan {
     pub outside: bool,
     pub early: bool,
+    pub other: bool,
     pub first: Seconds,
     pub last: Seconds,
+    pub silent: bool,
 }
 
 // What a reader yields.

@@ -49,7 +49,7 @@ pub fn read_on(b: &[u8], k: usize) -> usize
     k
 }
 
-// In which unit a reader over these bytes yields its fixes, after checks 1 to 9.
+// In which unit a reader over these bytes yields its fixes, after checks 1 to 9 and 20.
 pub fn unit_at(b: &[u8]) -> InUnit
     ensures { λ r. ⌜ unit-said r ≡ unit-answer (now (b .entry)) ⌝ }
 {
@@ -66,7 +66,7 @@ pub struct Reader<'a> {
     at: usize,
 }
 
-// Where a reader of these bytes begins, after checks 1 to 9.
+// Where a reader of these bytes begins, after checks 1 to 9 and 20.
 fn first_position(b: &[u8]) -> usize
     ensures { λ r. ⌜ r ≡ begins (now (b .entry)) ⌝ }
 {
@@ -87,7 +87,7 @@ fn refusal_at(b: &[u8], at: usize) -> Checked
     check(b)
 }
 
-// A reader over lent bytes, which stands on the first fix if checks 1 to 9 accept them. If not, it yields no fix.
+// A reader over lent bytes, which stands on the first fix if checks 1 to 9 and 20 accept them. If not, it yields no fix.
 pub fn read<'a>(bytes: &'a [u8]) -> Reader<'a>
     ensures { λ r. ⌜ (r .bytes ≡ bytes .entry) × (r .at ≡ begins (now (bytes .entry))) ⌝ }
 {

@@ -8,11 +8,14 @@ use native.Mathlib.Numerals.{add-one}
 use lib.ListN.{length, take, drop, set, length-set, length-append}
 use Rattle.distance.specs.Fix.{Fix, Bounded}
 use Rattle.distance.specs.Laws.All.{All}
-use Rattle.format.specs.Kinds.{Kind}
+use Rattle.format.specs.declared.Kind.{Kind as CodeKind}
+use Rattle.format.specs.Bytes.{InBytes}
+use Rattle.format.specs.Kinds.{Kind, layout}
 use Rattle.format.specs.Format.{kind-of, never, record-length, HoldsLongest, each, fix-at, fixes, count-field, record-bytes}
-use Rattle.format.specs.Laws.Kinds.{of-code, kind-of-is, longer}
-use Rattle.format.specs.Laws.Each.{each-more, length-each}
+use Rattle.format.specs.Laws.Kinds.{is-kind, of-code, kind-of-is, longer}
+use Rattle.format.specs.Laws.Each.{each-more, length-each, all-at}
 use Rattle.format.specs.Laws.Layout.{length-record}
+use Rattle.format.specs.Laws.RoundTrip.{bounded-in-bytes}
 use Rattle.record.specs.Answers.{Answer, gives, turns-away, answer, unless}
 use Rattle.record.specs.Checks.{IsAccepted, read-refusal}
 use Rattle.record.specs.Laws.Accepted.{accepted-good, good-fixes, places-good}
@@ -56,6 +59,13 @@ module _ {A : Type 0} (says-fix : A → Fix) where
 -- the fixes of an accepted record are within its kind's limit
 pub bounded-fixes : {K : Kind} {b : List ℕ} {n : ℕ} → IsAccepted b → K ≡ kind-of b → n ≡ count-field b → All (Bounded (K .limit)) (each (fix-at K b) 0 n)
 bounded-fixes {b} a k e = rw (k, e) (places-good (kind-of b .limit) (fixes b) (accepted-good b a .trail-good .inside))
+
+-- and so is each of their coordinates within its bytes
+pub within-bytes : (κ : CodeKind) (b : List ℕ) (n k : ℕ) {f : Fix} → f ≡ fix-at (layout κ) b k → All (Bounded (layout κ .limit)) (each (fix-at (layout κ) b) 0 n) → k < n
+    → InBytes (layout κ .width) (f .x) × InBytes (layout κ .width) (f .y)
+within-bytes κ b n k {f} e h less =
+    let g : Bounded (layout κ .limit) f = rw e (all-at (fix-at (layout κ) b) n k h less) in
+    (bounded-in-bytes (layout κ) (is-kind κ) (f .x) (g .x-low) (g .x-high), bounded-in-bytes (layout κ) (is-kind κ) (f .y) (g .y-low) (g .y-high))
 
 -- ---- what the writer says of the fixes, said of the record
 -- an accepted record's fixes pass the writer's checks

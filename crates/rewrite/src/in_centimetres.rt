@@ -11,6 +11,7 @@ ghost use Rattle.format.specs.Format.{each, fix-at};
 ghost use Rattle.record.specs.Laws.Trail.{Lent};
 ghost use Rattle.writing.specs.Writing.{in-centimetres, Writes};
 ghost use Rattle.writing.specs.Answers.{wrote};
+use crate::narrower;
 use distance::Fix;
 use distance::Seconds;
 use format::Kind;
@@ -20,17 +21,13 @@ use writing::Written;
 
 // A fix as the list has it.
 fn listed(f: Fix) -> CentimetreFix
-    requires { ⌜ InBytes 2 (f .x .0) × InBytes 2 (f .y .0) ⌝ }
+    requires { ⌜ InBytes 2 (f .x .0) × InBytes 2 (f .y .0) × (f .silence .0 ≡ 0) ⌝ }
     ensures { λ r. ⌜ in-centimetres r ≡ fixOf f ⌝ }
 {
     let t = f.t;
-    let x = f.x;
-    let y = f.y;
-    CentimetreFix {
-        t,
-        x: Centimetres(x.0 as i16),
-        y: Centimetres(y.0 as i16),
-    }
+    let x = narrower(f.x);
+    let y = narrower(f.y);
+    CentimetreFix { t, x, y }
 }
 
 // The first n fixes of a record, in a list that has room for those of the longest.

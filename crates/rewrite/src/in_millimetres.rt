@@ -18,6 +18,7 @@ use writing::Written;
 
 // A fix as the list has it.
 fn listed(f: Fix) -> MillimetreFix
+    requires { ⌜ f .silence .0 ≡ 0 ⌝ }
     ensures { λ r. ⌜ in-millimetres r ≡ fixOf f ⌝ }
 {
     let t = f.t;

@@ -1,18 +1,30 @@
 // Reads a record from standard input, at most its first 49,162 bytes, and writes its fixes as a record anew, marked never; or prints the number of its refusal.
-// The fixes go by a list in this program's own memory, which it lends to the writer of their unit.
+// The fixes go by a list in this program's own memory, which it lends to the writer of their kind.
 mod in_centimetres;
 mod in_millimetres;
+mod with_silences;
 
 ghost use mathlib.Core.Path.{_≡_};
 ghost use Prim.Native.Nat.{ℕ, _≤_};
 ghost use lib.ListN.{length};
+ghost use Rattle.format.specs.Bytes.{InBytes};
 ghost use Rattle.format.specs.Format.{HoldsLongest};
 ghost use Rattle.record.specs.Answers.{gives};
 ghost use Rattle.writing.specs.Answers.{wrote};
 ghost use Rattle.rewrite.specs.Anew.{WrittenAnew};
+use distance::Coordinate;
 use format::Kind;
 use record::Checked;
+use writing::Centimetres;
 use writing::Written;
+
+// A coordinate that two bytes hold, as a list in centimetres has it.
+fn narrower(c: Coordinate) -> Centimetres
+    requires { ⌜ InBytes 2 (c .0) ⌝ }
+    ensures { λ r. ⌜ r .0 ≡ c .0 ⌝ }
+{
+    Centimetres(c.0 as i16)
+}
 
 // The record that the bytes begin with, written anew, in its own kind.
 fn write_anew(b: &[u8], out: &mut [u8]) -> Written
@@ -31,6 +43,9 @@ fn write_anew(b: &[u8], out: &mut [u8]) -> Written
                 },
                 Kind::MillimetreTrail => {
                     in_millimetres::write_list(in_millimetres::fixes_of(b, n), n, out)
+                },
+                Kind::SilenceTrail => {
+                    with_silences::write_list(with_silences::fixes_of(b, n), n, out)
                 },
             }
         },

@@ -49,7 +49,7 @@ pub fn coordinate(c: Coordinate) {
     whole(c.0 as i64);
 }
 
-// (t,x,y)
+// (t,x,y), with the word behind the y where silence follows
 fn fix(f: Fix) {
     let t = f.t;
     word(b"(");
@@ -58,6 +58,9 @@ fn fix(f: Fix) {
     coordinate(f.x);
     word(b",");
     coordinate(f.y);
+    if distance::silent(f) {
+        word(b" silence");
+    }
     word(b")");
 }
 
@@ -132,7 +135,9 @@ fn same(f: Fix, g: Fix) -> bool {
     let u = g.t;
     let v = g.x;
     let w = g.y;
-    (t.0 == u.0) & ((x.0 == v.0) & (y.0 == w.0))
+    let s = f.silence;
+    let r = g.silence;
+    (t.0 == u.0) & ((x.0 == v.0) & ((y.0 == w.0) & (s.0 == r.0)))
 }
 
 // Whether two readers yield the same fix.

@@ -1,6 +1,6 @@
 -- THE LISTING. Document 01: "First line: count, then mark or `never`. Each fix: time, x, y. A refusal prints one line: `refused`, a space and the
 -- number. Every line ends with the byte `0A`." Text is a list of bytes, ASCII. Document 02, item 8, adds a kind of record in millimetres: its lines are the same,
--- and the mark and the places are numbers of the record's own unit.
+-- and the mark and the places are numbers of the record's own unit. Item 5: "The listing [..] ends a fix's line with ` silence` where one follows."
 use mathlib.Core.Bool.{cond}
 use mathlib.Core.List.{List, [], _∷_, _++_}
 use mathlib.Core.Option.{some, none}
@@ -8,6 +8,7 @@ use Prim.Native.Nat.{ℕ, zero, suc, _+_, _/_, _%_}
 use lib.Dec.{ltb, eqb}
 use lib.IntN.{ℤ, pos, negsuc}
 use Rattle.distance.specs.Fix.{Fix}
+use Rattle.distance.specs.Silence.{silent}
 use Rattle.format.specs.Format.{never, mark-field, count-field, fixes}
 use Rattle.record.specs.Checks.{read-refusal}
 
@@ -30,6 +31,10 @@ never-word = 110 ∷ 101 ∷ 118 ∷ 101 ∷ 114 ∷ []
 -- "fix "
 abbrev pub fix-word : List ℕ
 fix-word = 102 ∷ 105 ∷ 120 ∷ space ∷ []
+
+-- " silence"
+abbrev pub silence-word : List ℕ
+silence-word = space ∷ 115 ∷ 105 ∷ 108 ∷ 101 ∷ 110 ∷ 99 ∷ 101 ∷ []
 
 -- "end" and its line's end
 abbrev pub end-line : List ℕ
@@ -59,8 +64,12 @@ integer (pos n) = decimal n
 integer (negsuc n) = 45 ∷ decimal (suc n)
 
 -- ---- lines
+-- "` silence` where one follows"
+unfoldable pub silence-text : Fix → List ℕ
+silence-text f = cond (silent f) silence-word []
+
 unfoldable pub fix-line : Fix → List ℕ
-fix-line f = fix-word ++ (decimal (f .t) ++ (space ∷ (integer (f .x) ++ (space ∷ (integer (f .y) ++ (line-end ∷ []))))))
+fix-line f = fix-word ++ (decimal (f .t) ++ (space ∷ (integer (f .x) ++ (space ∷ (integer (f .y) ++ (silence-text f ++ (line-end ∷ [])))))))
 
 unfoldable pub fix-lines : List Fix → List ℕ
 fix-lines [] = []

@@ -4,12 +4,13 @@ ghost use mathlib.Core.List.{_++_};
 ghost use Prim.Native.Nat.{_+_, _≤_, _<_};
 ghost use lib.ListN.{length, drop};
 ghost use Rattle.distance.specs.Fix.{fixOf, Bounded, widest};
-ghost use Rattle.text.specs.Text.{decimal, integer, fix-line, mark-text, first-line, refusal-line, text};
+ghost use Rattle.text.specs.Text.{decimal, integer, silence-text, fix-line, mark-text, first-line, refusal-line, text};
 ghost use Rattle.text.specs.Laws.Text.{Stored, step-text, step-bounded, opening-text, lines-in, closing-text};
 ghost use Rattle.record.specs.Answers.{found, refused};
 ghost use Rattle.record.specs.Checks.{read-refusal};
 use distance::Coordinate;
 use distance::Fix;
+use distance::silent;
 use format::count_at;
 use format::mark_at;
 use record::Checked;
@@ -58,10 +59,21 @@ fn put_word(out: &mut [u8], at: usize, word: &[u8]) -> usize
     at + k
 }
 
-// The line of a fix of any kind, at most 31 bytes.
+// The word that ends a fix's line where silence follows.
+fn put_silence(out: &mut [u8], at: usize, f: Fix) -> usize
+    requires { ⌜ at + 8 ≤ length (now out) ⌝ }
+    ensures { λ r. ⌜ Stored (now (out .entry)) at (now (out .exit)) r (silence-text (fixOf f)) × (r ≤ at + 8) ⌝ }
+{
+    if silent(f) {
+        return put_word(out, at, b" silence");
+    }
+    at
+}
+
+// The line of a fix of any kind, at most 39 bytes.
 fn put_fix_line(out: &mut [u8], at: usize, f: Fix) -> usize
-    requires { ⌜ (at + 31 ≤ length (now out)) × Bounded widest (fixOf f) ⌝ }
-    ensures { λ r. ⌜ Stored (now (out .entry)) at (now (out .exit)) r (fix-line (fixOf f)) × (r ≤ at + 31) ⌝ }
+    requires { ⌜ (at + 39 ≤ length (now out)) × Bounded widest (fixOf f) ⌝ }
+    ensures { λ r. ⌜ Stored (now (out .entry)) at (now (out .exit)) r (fix-line (fixOf f)) × (r ≤ at + 39) ⌝ }
 {
     let t = f.t;
     let time = put_word(out, at, b"fix ");
@@ -69,7 +81,8 @@ fn put_fix_line(out: &mut [u8], at: usize, f: Fix) -> usize
     let x = put_word(out, gap, b" ");
     let second = put_integer(out, x, f.x);
     let y = put_word(out, second, b" ");
-    let end = put_integer(out, y, f.y);
+    let place = put_integer(out, y, f.y);
+    let end = put_silence(out, place, f);
     put_word(out, end, b"\n")
 }
 
@@ -108,8 +121,8 @@ fn put_refusal(out: &mut [u8], k: u8) -> usize
 
 // The line of what a reader yielded; nothing, if none was left.
 fn put_step(out: &mut [u8], at: usize, s: Step) -> usize
-    requires { ⌜ (at + 31 ≤ length (now out)) × step-bounded (found s) ⌝ }
-    ensures { λ r. ⌜ Stored (now (out .entry)) at (now (out .exit)) r (step-text (found s)) × (r ≤ at + 31) ⌝ }
+    requires { ⌜ (at + 39 ≤ length (now out)) × step-bounded (found s) ⌝ }
+    ensures { λ r. ⌜ Stored (now (out .entry)) at (now (out .exit)) r (step-text (found s)) × (r ≤ at + 39) ⌝ }
 {
     match s {
         Step::Found(f) => put_fix_line(out, at, f),
@@ -152,8 +165,8 @@ fn put_closing(out: &mut [u8], at: usize, v: Checked) -> usize
 
 // The text of lent bytes, as a reader says and yields it.
 fn put_text(out: &mut [u8], b: &[u8]) -> usize
-    requires { ⌜ 126997 ≤ length (now out) ⌝ }
-    ensures { λ r. ⌜ Stored (now (out .entry)) 0 (now (out .exit)) r (text (now (b .entry))) × (r ≤ 126997) ⌝ }
+    requires { ⌜ 159765 ≤ length (now out) ⌝ }
+    ensures { λ r. ⌜ Stored (now (out .entry)) 0 (now (out .exit)) r (text (now (b .entry))) × (r ≤ 159765) ⌝ }
 {
     let mut r = read(b);
     let v = said(r);
@@ -168,9 +181,10 @@ fn put_text(out: &mut [u8], b: &[u8]) -> usize
     put_closing(out, end, v)
 }
 
-// The text of lent bytes, at the start of the output, and its length. The longest record's text takes 126,997 bytes (`longest-text` of specs/Examples.antt).
-pub fn list(b: &[u8], out: &mut [u8; 126997]) -> usize
-    ensures { λ r. ⌜ (r ≡ length (text (now (b .entry)))) × (r ≤ 126997) × (now (out .exit) ≡ text (now (b .entry)) ++ drop r (now (out .entry))) ⌝ }
+// The text of lent bytes, at the start of the output, and its length. No record's text takes more than 159,765 bytes (`text-room` of
+// specs/Examples.antt).
+pub fn list(b: &[u8], out: &mut [u8; 159765]) -> usize
+    ensures { λ r. ⌜ (r ≡ length (text (now (b .entry)))) × (r ≤ 159765) × (now (out .exit) ≡ text (now (b .entry)) ++ drop r (now (out .entry))) ⌝ }
 {
     put_text(out, b)
 }

@@ -3,6 +3,7 @@
 -- It asks of fixes only that they can be measured, so it is written for any such type A; `thinning`, at the end, is at fixes.
 --   far i m j     the measure of the inner fix m of the span from i to j: Nx² + Ny²
 --   bound e i j   m is within e if its measure is at most this: e²·D²
+--   silent i      silence follows i
 use mathlib.Core.Bool.{Bool, true, false, cond, _&&_}
 use mathlib.Core.List.{List, [], _∷_, _++_}
 use Prim.Native.Nat.{ℕ, zero, suc, _+_}
@@ -10,6 +11,7 @@ use lib.Dec.{leb}
 use lib.ListN.{length}
 use Rattle.distance.specs.Fix.{Fix, last-of}
 use Rattle.distance.specs.Distance.{deviation, allowance}
+use Rattle.distance.specs.Silence.{silent}
 
 -- Where a span is split: nowhere, if it has no inner fix; else at one of them, with those before it and those after it.
 pub data Split (A : Type 0) : Type 0 where
@@ -61,7 +63,7 @@ module _ {A : Type 0} (far : (i m j : A) → ℕ) (bound : (e : ℕ) (i j : A) �
             ]
       ]
 
-  -- The whole trail is one span: its ends stay, and what stays between them. "A record of one fix keeps it."
+  -- A whole stretch is one span: its ends stay, and what stays between them. "A record of one fix keeps it."
   unfoldable pub thin : (e : ℕ) → List A → Thinned A
   thin e [] = record { kept = []; count = 0 }
   thin e (i ∷ []) = record { kept = i ∷ []; count = 0 }
@@ -71,9 +73,35 @@ module _ {A : Type 0} (far : (i m j : A) → ℕ) (bound : (e : ℕ) (i j : A) �
       let between = thin-span (length inner) e i inner j in
       record { kept = i ∷ (between .kept ++ j ∷ []); count = between .count }
 
+-- ---- SILENCES. Document 02, item 5: "A kept fix keeps its byte, both ends of a silence are always kept, and each stretch between silences is thinned by
+-- itself, the counts added".
+module _ {A : Type 0} where
+  -- i stands before fixes that are cut into stretches: it is the first fix of the first of them.
+  unfoldable pub joined : A → List (List A) → List (List A)
+  joined i [] = (i ∷ []) ∷ []
+  joined i (s ∷ others) = (i ∷ s) ∷ others
+
+  -- The stretches between silences: one ends with each fix that silence follows, and one with the last; the next begins after it.
+  unfoldable pub stretches : (silent : A → Bool) → List A → List (List A)
+  stretches silent [] = []
+  stretches silent (i ∷ l) = cond (silent i) ((i ∷ []) ∷ stretches silent l) (joined i (stretches silent l))
+
+  -- Of two, one after the other: what stays of the first and then what stays of the second, and "the counts added".
+  abbrev pub together : Thinned A → Thinned A → Thinned A
+  together one two = record { kept = one .kept ++ two .kept; count = one .count + two .count }
+
+module _ {A : Type 0} (far : (i m j : A) → ℕ) (bound : (e : ℕ) (i j : A) → ℕ) where
+  -- "each stretch .. by itself"
+  unfoldable pub thin-each : (e : ℕ) → List (List A) → Thinned A
+  thin-each e [] = record { kept = []; count = 0 }
+  thin-each e (s ∷ others) = together (thin far bound e s) (thin-each e others)
+
+  abbrev pub thin-stretches : (silent : A → Bool) (e : ℕ) → List A → Thinned A
+  thin-stretches silent e l = thin-each e (stretches silent l)
+
 -- Thinning of a trail at the tolerance e.
 unfoldable pub thinning : (e : ℕ) → List Fix → Thinned Fix
-thinning e l = thin deviation allowance e l
+thinning e l = thin-stretches deviation allowance silent e l
 
 -- The fixes that it keeps.
 abbrev pub thinned : (e : ℕ) → List Fix → List Fix

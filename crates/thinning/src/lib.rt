@@ -13,8 +13,9 @@ ghost use Rattle.distance.specs.Span.{one-word, greatest-N};
 ghost use Rattle.distance.specs.Words.{value};
 ghost use Rattle.format.specs.Kinds.{layout};
 ghost use Rattle.format.specs.Format.{record-length, fix-at, each};
-ghost use Rattle.thinning.specs.Marks.{Furthest, Judged, Marks, Cleared, Says};
+ghost use Rattle.thinning.specs.Marks.{Furthest, Judged, Marks, ClearFrom, Cleared, Says, Stretch, StretchMarked};
 ghost use Rattle.thinning.specs.Spans.{Spans, SpanOff};
+ghost use Rattle.distance.specs.Silence.{silent};
 ghost use Rattle.thinning.specs.Thinning.{thinning};
 
 // The furthest inner fix of a span: its position, and its Nx² + Ny², in one word ..
@@ -126,14 +127,15 @@ fn judged_by_seconds(b: &[u8], lo: usize, hi: usize, kind: Kind, e: Tolerance) -
     judged_in_words(b, lo, hi, kind, e)
 }
 
-// With each kind called by its name the compiler makes the search of each by itself, and sees that in kind 1 one word holds every span's values.
+// With each kind called by its name the compiler makes the search of each by itself. In centimetres one word holds every span's values, whatever its seconds.
 fn judged(b: &[u8], lo: usize, hi: usize, kind: Kind, e: Tolerance) -> Verdict
     requires { ⌜ (lo + 1 < hi) × (record-length (layout kind) (suc hi) ≤ length (now b)) × Spans (layout kind .limit) (fix-at (layout kind) (now b)) (hi + 1) ⌝ }
     ensures { λ r. ⌜ Judged deviation allowance (fix-at (layout kind) (now (b .entry))) (e .0) lo hi (r .at) (r .within) ⌝ }
 {
     match kind {
-        Kind::Trail => judged_by_seconds(b, lo, hi, Kind::Trail, e),
+        Kind::Trail => judged_in_word(b, lo, hi, Kind::Trail, e),
         Kind::MillimetreTrail => judged_by_seconds(b, lo, hi, Kind::MillimetreTrail, e),
+        Kind::SilenceTrail => judged_in_word(b, lo, hi, Kind::SilenceTrail, e),
     }
 }
 
@@ -157,13 +159,43 @@ fn split(b: &[u8], keep: &mut [bool], lo: usize, hi: usize, kind: Kind, e: Toler
     n + p + q
 }
 
-// Marks what thinning at e keeps of the first n fixes, in marks that were cleared, and counts.
+// Where the stretch that begins at position lo ends: at the first fix from there on that silence follows, or at the last of the n.
+fn stretch_end(b: &[u8], lo: usize, n: usize, kind: Kind) -> usize
+    requires { ⌜ (lo < n) × (record-length (layout kind) n ≤ length (now b)) ⌝ }
+    ensures { λ r. ⌜ Stretch silent (fix-at (layout kind) (now (b .entry))) n lo r ⌝ }
+{
+    let last = n - 1;
+    let mut hi = lo;
+    while hi < last {
+        if distance::silent(format::fix_at(b, kind, hi)) {
+            return hi;
+        }
+        hi += 1;
+    }
+    hi
+}
+
+// Thins the stretch from position lo to position hi, whose marks and all later ones are clear: its ends stay, and what stays between them.
+fn mark_stretch(b: &[u8], keep: &mut [bool], lo: usize, hi: usize, kind: Kind, e: Tolerance) -> u32
+    requires { ⌜ (lo ≤ hi) × (hi < 4096) × (hi < length (now keep)) × ClearFrom lo (now keep) × (record-length (layout kind) (suc hi) ≤ length (now b)) × Spans (layout kind .limit) (fix-at (layout kind) (now b)) (hi + 1) ⌝ }
+    ensures { λ r. ⌜ StretchMarked deviation allowance (fix-at (layout kind) (now (b .entry))) (e .0) lo hi (now (keep .entry)) (now (keep .exit)) r ⌝ }
+{
+    keep[lo] = true;
+    keep[hi] = true;
+    split(b, keep, lo, hi, kind, e)
+}
+
+// Marks what thinning at e keeps of the first n fixes, in marks that were cleared, and counts: stretch by stretch.
 pub fn mark_kept(b: &[u8], keep: &mut [bool], n: usize, kind: Kind, e: Tolerance) -> u32
     requires { ⌜ (1 ≤ n) × (n ≤ 4096) × (n ≤ length (now keep)) × Cleared (now keep) × (record-length (layout kind) n ≤ length (now b)) × Spans (layout kind .limit) (fix-at (layout kind) (now b)) n ⌝ }
     ensures { λ r. ⌜ Says (thinning (e .0) (each (fix-at (layout kind) (now (b .entry))) 0 n)) (now (keep .exit)) (each (fix-at (layout kind) (now (b .entry))) 0 n) r ⌝ }
 {
-    let last = n - 1;
-    keep[0] = true;
-    keep[last] = true;
-    split(b, keep, 0, last, kind, e)
+    let mut count: u32 = 0;
+    let mut lo = 0;
+    while lo < n {
+        let hi = stretch_end(b, lo, n, kind);
+        count += mark_stretch(b, keep, lo, hi, kind, e);
+        lo = hi + 1;
+    }
+    count
 }

@@ -1,48 +1,51 @@
 // Document 01's trails worked by hand, run through the calls that a line control makes: each is written as a record, and what is asked of it is asked of
-// the record's bytes. One line a row, to be laid beside the paper's table, whose row k document 02's item 1 has changed; below it rows in millimetres. Nothing here
-// knows what the answers should be; specs/Worked.antt of the questions layer proves them of the definitions.
+// the record's bytes. One line a row, to be laid beside the paper's table, whose row k document 02's item 1 has changed; below it rows in millimetres and with
+// silences. Nothing here knows what the answers should be; specs/Worked.antt of the questions layer proves them of the definitions.
+mod silences;
+
 use aging::Aged;
 use crossing::Edges;
 use crossing::Window;
 use distance::Coordinate;
 use distance::Fix;
 use distance::Seconds;
+use distance::Silence;
 use distance::Tolerance;
 use format::Kind;
 ghost use mathlib.Core.Path.{_≡_};
 ghost use Rattle.questions.specs.Worked.{aged-all};
 ghost use Rattle.worked.specs.Agings.{leaving};
 
-// ---- the trails, each as its record; the longest has four fixes, which in millimetres take 58 bytes
+// ---- the trails, each as its record; the longest has six fixes, which with silences take 64 bytes
 
 // A trail that the writer turned away would leave zeros, which every call refuses.
-fn record_of(kind: Kind, ts: &[u32], xs: &[i32], ys: &[i32]) -> [u8; 58] {
-    let mut bytes = [0u8; 58];
-    writing::write(kind, ts, xs, ys, &mut bytes);
+fn record_of(kind: Kind, ts: &[u32], xs: &[i32], ys: &[i32]) -> [u8; 64] {
+    let mut bytes = [0u8; 64];
+    writing::write(kind, ts, xs, ys, b"", &mut bytes);
     bytes
 }
 
-fn trail_a() -> [u8; 58] {
+fn trail_a() -> [u8; 64] {
     record_of(Kind::Trail, &[5], &[1], &[1])
 }
 
-fn trail_b() -> [u8; 58] {
+fn trail_b() -> [u8; 64] {
     record_of(Kind::Trail, &[0, 10, 20], &[0, 100, 200], &[0, 0, 0])
 }
 
-fn trail_c() -> [u8; 58] {
+fn trail_c() -> [u8; 64] {
     record_of(Kind::Trail, &[0, 10, 20], &[0, 30, 0], &[0, 40, 0])
 }
 
-fn trail_e() -> [u8; 58] {
+fn trail_e() -> [u8; 64] {
     record_of(Kind::Trail, &[0, 10, 20], &[0, 90, 100], &[0, 0, 0])
 }
 
-fn trail_g() -> [u8; 58] {
+fn trail_g() -> [u8; 64] {
     record_of(Kind::Trail, &[0, 1, 3], &[0, 0, 1], &[0, 0, 0])
 }
 
-fn trail_h() -> [u8; 58] {
+fn trail_h() -> [u8; 64] {
     record_of(
         Kind::Trail,
         &[0, 10, 20, 30],
@@ -51,18 +54,19 @@ fn trail_h() -> [u8; 58] {
     )
 }
 
-fn trail_k() -> [u8; 58] {
+fn trail_k() -> [u8; 64] {
     record_of(Kind::Trail, &[0, 10], &[0, 5], &[0, -5])
 }
 
-fn trail_l() -> [u8; 58] {
+fn trail_l() -> [u8; 64] {
     record_of(Kind::Trail, &[0, 10], &[0, 100], &[0, 0])
 }
 
-fn box_l() -> Edges {
+// A box as high as box l, from one x to another.
+fn box_from(left: i32, right: i32) -> Edges {
     Edges {
-        left: Coordinate(33),
-        right: Coordinate(40),
+        left: Coordinate(left),
+        right: Coordinate(right),
         bottom: Coordinate(-5),
         top: Coordinate(5),
     }
@@ -99,7 +103,7 @@ fn age_all(b: &mut [u8], es: &[u16]) -> Aged
     Aged::Count(count)
 }
 
-fn aged(letter: &[u8], original: [u8; 58], es: &[u16]) {
+fn aged(letter: &[u8], original: [u8; 64], es: &[u16]) {
     let mut left = original;
     begin(letter, &original);
     table::tolerances(es);
@@ -112,7 +116,7 @@ fn aged(letter: &[u8], original: [u8; 58], es: &[u16]) {
     table::word(b"\n");
 }
 
-fn placed(letter: &[u8], b: [u8; 58], second: u32, thousandths: u16) {
+fn placed(letter: &[u8], b: [u8; 64], second: u32, thousandths: u16) {
     begin(letter, &b);
     table::word(b"moment ");
     table::moment(second, thousandths);
@@ -121,15 +125,13 @@ fn placed(letter: &[u8], b: [u8; 58], second: u32, thousandths: u16) {
     table::word(b"\n");
 }
 
-// Whether trail l crosses its box in a window.
-fn crossed(start: u32, end: u32) {
-    let b = trail_l();
-    let edges = box_l();
+// Whether a trail crosses a box in a window.
+fn crossed(letter: &[u8], b: [u8; 64], edges: Edges, start: u32, end: u32) {
     let window = Window {
         start: Seconds(start),
         end: Seconds(end),
     };
-    begin(b"l", &b);
+    begin(letter, &b);
     table::edges(edges);
     table::word(b", ");
     table::window(window);
@@ -146,12 +148,20 @@ fn apart(label: &[u8], seconds: u32) {
         t: Seconds(seconds),
         x: Coordinate(0),
         y: Coordinate(0),
+        silence: Silence(0),
     };
     format::put_fix(&mut bytes, Kind::Trail, 18, second);
     begin(label, &bytes);
     table::word(b"writer and reader | ");
-    let mut output = [0u8; 58];
-    table::written(writing::write(Kind::Trail, &[0, seconds], &[0, 0], &[0, 0], &mut output));
+    let mut output = [0u8; 64];
+    table::written(writing::write(
+        Kind::Trail,
+        &[0, seconds],
+        &[0, 0],
+        &[0, 0],
+        b"",
+        &mut output,
+    ));
     table::word(b" and ");
     table::checked(record::check(&bytes));
     table::word(b"\n");
@@ -159,12 +169,12 @@ fn apart(label: &[u8], seconds: u32) {
 
 // A lone fix so far from the middle: what the writer of millimetres says of it.
 fn placed_at(label: &[u8], x: i32) {
-    let mut output = [0u8; 58];
+    let mut output = [0u8; 64];
     table::word(label);
     table::word(b" | (0,");
     table::coordinate(Coordinate(x));
     table::word(b",0), writer | ");
-    table::written(writing::write(Kind::MillimetreTrail, &[0], &[x], &[0], &mut output));
+    table::written(writing::write(Kind::MillimetreTrail, &[0], &[x], &[0], b"", &mut output));
     table::word(b"\n");
 }
 
@@ -184,8 +194,8 @@ fn thinned() {
 }
 
 fn beside() {
-    crossed(4, 10);
-    crossed(5, 10);
+    crossed(b"l", trail_l(), box_from(33, 40), 4, 10);
+    crossed(b"l", trail_l(), box_from(33, 40), 5, 10);
     aged(b"tolerance", trail_c(), &[32000]);
     aged(b"tolerance", trail_c(), &[32001]);
     apart(b"span", 65535);
@@ -235,9 +245,11 @@ fn main() {
     table::word(b"Places are rounded as document 02's item 1 has it, halves away from 0.\n\n");
     thinned();
     placed(b"k", trail_k(), 1, 0);
-    crossed(0, 10);
+    crossed(b"l", trail_l(), box_from(33, 40), 0, 10);
     table::word(b"\n");
     beside();
     table::word(b"\nDocument 02, item 8, in millimetres:\n");
     millimetres();
+    table::word(b"\nDocument 02, item 5, with silences:\n");
+    silences::rows();
 }

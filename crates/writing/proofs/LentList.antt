@@ -22,6 +22,8 @@ use denote.Struct.Declared.{Declared, row as row-of}
 use denote.Struct.Laws as LL
 use Rattle.distance.specs.Fix.{Fix}
 use Rattle.format.specs.declared.Kind.{Kind}
+use Rattle.format.specs.Kinds.{layout}
+use Rattle.writing.specs.Laws.ReadsBack.{Sayable}
 use Rattle.writing.specs.declared.stage.Stage.{Stage}
 use Rattle.writing.proofs.stage.Stage as P
 use Rattle.writing.proofs.stage.Stage.Laws as P′
@@ -47,18 +49,20 @@ pub record LentList : Type 2 where
   pub lawful : {M : Type 1} (𝓤 : URA M) (H : Heap 𝓤) (A : Atoms 𝓤) → Given 𝓤 H A → Lawful 𝓤 H A (type-of D mir written reaches own coded)
   pub copy : {M : Type 1} (𝓤 : URA M) (H : Heap 𝓤) (A : Atoms 𝓤) → Given 𝓤 H A → Copy 𝓤 H A (type-of D mir written reaches own coded)
   pub size-fits : Holds (ltb (size mir) (2 ^ 64))
-  -- the fix that it says, and the kind of the record that such fixes make; `no-fix` is what the list has where it has none, and no contract reads it there
+  -- the fix that it says, and the kind of the record that such fixes make, which can say their silences; `no-fix` is what the list has where it has none, and no
+  -- contract reads it there
   pub says-fix : D → Fix
   pub no-fix : D
   pub kind : Kind
+  pub sayable : (f : D) → Sayable (layout kind) (says-fix f)
 
 -- the struct's type
 abbrev pub row : LentList → RattleType
 row L = type-of (L .D) (L .mir) (L .written) (L .reaches) (L .own) (L .coded)
 
 -- of a declared struct whose fields may be copied
-abbrev pub list-of : (T : Declared) → LL.Laws T → LL.Copyables (T .parts) → Holds (ltb (size (lone (row-of T .mir))) (2 ^ 64)) → (T .D → Fix) → T .D → Kind → LentList
-list-of T laws copies size-fits says-fix no-fix kind = record {
+abbrev pub list-of : (T : Declared) → LL.Laws T → LL.Copyables (T .parts) → Holds (ltb (size (lone (row-of T .mir))) (2 ^ 64)) → (says-fix : T .D → Fix) → T .D → (kind : Kind) → ((f : T .D) → Sayable (layout kind) (says-fix f)) → LentList
+list-of T laws copies size-fits says-fix no-fix kind sayable = record {
   D = T .D;
   mir = lone (row-of T .mir);
   written = row-of T .written;
@@ -73,6 +77,7 @@ list-of T laws copies size-fits says-fix no-fix kind = record {
   says-fix = says-fix;
   no-fix = no-fix;
   kind = kind;
+  sayable = sayable;
 }
 
 -- the machine's types of the list, and of the output

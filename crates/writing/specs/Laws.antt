@@ -4,3 +4,4 @@ pub mod ReadsBack
 pub mod Passing
 pub mod Centimetres
 pub mod Millimetres
+pub mod Silences

@@ -17,8 +17,9 @@ use crate::stage::stage_begins;
 use crate::stage::stage_ready;
 use crate::stage::stage_says;
 use crate::stage::stage_step;
-use distance::Coordinate;
+use crate::wider;
 use distance::Fix;
+use distance::Silence;
 use format::Kind;
 
 // The fix that a struct of the list says.
@@ -26,12 +27,13 @@ fn plain(f: CentimetreFix) -> Fix
     ensures { λ r. ⌜ (fixOf r ≡ in-centimetres f) × InBytes 2 (r .x .0) × InBytes 2 (r .y .0) ⌝ }
 {
     let t = f.t;
-    let x = f.x;
-    let y = f.y;
+    let x = wider(f.x);
+    let y = wider(f.y);
     Fix {
         t,
-        x: Coordinate(x.0 as i32),
-        y: Coordinate(y.0 as i32),
+        x,
+        y,
+        silence: Silence(0),
     }
 }
 

@@ -19,6 +19,7 @@ use crate::stage::stage_says;
 use crate::stage::stage_step;
 use distance::Coordinate;
 use distance::Fix;
+use distance::Silence;
 use format::Kind;
 
 // The fix that a struct of the list says.
@@ -32,6 +33,7 @@ fn plain(f: MillimetreFix) -> Fix
         t,
         x: Coordinate(x.0),
         y: Coordinate(y.0),
+        silence: Silence(0),
     }
 }
 

@@ -1,30 +1,36 @@
-// The writers of the record layer: over a lent list of fixes, whose struct says their unit, and over three columns of numbers. All make the same checks, put
-// down the same bytes and promise that reading gives the list again.
+// The writers of the record layer: over a lent list of fixes, whose struct says their unit and whether they have silences, and over columns of numbers. All make
+// the same checks, put down the same bytes and promise that reading gives the list again.
 mod columns;
 mod in_centimetres;
 mod in_millimetres;
 mod stage;
+mod with_silences;
 
 pub use columns::write;
+use distance::Coordinate;
 use distance::Seconds;
+use distance::Silence;
 use format::Kind;
 use format::record_length;
 pub use in_centimetres::write_centimetres;
 pub use in_millimetres::write_millimetres;
 use record::Checked;
+pub use with_silences::write_silences;
 ghost use mathlib.Core.Path.{_≡_};
 ghost use Prim.Native.Nat.{_≤_};
 ghost use mathlib.Core.List.{List};
 ghost use mathlib.Core.Option.{none};
 ghost use lib.ListN.{length};
 ghost use Rattle.distance.specs.Fix.{Fix as Plain};
+ghost use Rattle.format.specs.Bytes.{InBytes};
 ghost use Rattle.format.specs.Kinds.{layout};
 ghost use Rattle.format.specs.Format.{record-length};
 ghost use Rattle.record.specs.Checks.{sentence, first, fix-checks, refusal, writing};
 ghost use Rattle.record.specs.Answers.{refused};
 ghost use Rattle.writing.specs.Writing.{asked-to-write};
 
-// A coordinate in centimetres, and a fix in them; and in millimetres. A length in one unit can't stand in the other's place.
+// A coordinate in centimetres, and a fix in them; in millimetres; and a fix in centimetres that says whether silence follows. A length in one unit can't stand in
+// the other's place.
 pub struct Centimetres(pub i16);
 
 pub struct CentimetreFix {
@@ -41,13 +47,27 @@ pub struct MillimetreFix {
     pub y: Millimetres,
 }
 
+pub struct SilenceFix {
+    pub t: Seconds,
+    pub x: Centimetres,
+    pub y: Centimetres,
+    pub silence: Silence,
+}
+
 // What the writer answers.
 pub enum Written {
     Length(u32),
     Refused(u8),
 }
 
-// The writer's checks 3, 7, 8, 9 and 15, of a list of n fixes whose pass said `scanned` and an output of so many bytes.
+// A coordinate in centimetres, of 16 bits, as the layers below have it.
+fn wider(c: Centimetres) -> Coordinate
+    ensures { λ r. ⌜ (r .0 ≡ c .0) × InBytes 2 (r .0) ⌝ }
+{
+    Coordinate(c.0 as i32)
+}
+
+// The writer's checks 3, 7, 8, 9, 20 and 15, of a list of n fixes whose pass said `scanned` and an output of so many bytes.
 fn write_says(kind: Kind, n: usize, scanned: Checked, output: usize) -> Checked
     ensures { λ r. ⌜ ((l : List Plain) → length l ≡ n → refused scanned ≡ first (sentence (layout kind) (asked-to-write l output)) fix-checks → refused r ≡ refusal (layout kind) writing (asked-to-write l output)) × (refused r ≡ none → (n ≤ 4096) × (record-length (layout kind) n ≤ output)) ⌝ }
 {

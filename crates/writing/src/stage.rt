@@ -57,7 +57,7 @@ pub(crate) fn stage_step(out: &mut [u8], kind: Kind, p: Stage, f: Fix) -> Stage
     }
 }
 
-// What checks 7 to 9 say after the first pass.
+// What checks 7 to 9 and 20 say after the first pass.
 fn stage_checked(p: Stage) -> Checked
     ensures { λ r. ⌜ ((K : Layout) (l c : List ℕ) (s : List Plain) (output : ℕ) → Passed K checks l s p c → refused r ≡ first (sentence K (asked-to-write s output)) fix-checks) ⌝ }
 {

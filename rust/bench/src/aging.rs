@@ -26,9 +26,9 @@ impl<F: Thinned> Aging<F> {
         let mut aged = record.clone();
         let answer = interface::age(&mut aged, tolerance);
         let (kept, count) = F::thin(&fixes, tolerance);
-        let numbers = kept.iter().map(|fix| fix.numbers()).collect();
+        let kept = kept.iter().map(|fix| fix.any()).collect();
         let same = (answer.refusal, answer.value) == (0, count)
-            && trails::fixes(&aged).map(|fixes| fixes.numbers()) == Ok(numbers);
+            && trails::fixes(&aged).map(|fixes| fixes.any()) == Ok(kept);
         assert!(
             same,
             "{name}, {} fixes: the two thinnings differ",

@@ -46,7 +46,7 @@ pub fn in_centimetres(fixes: &[Fix]) -> Vec<trails::Fix> {
 
 /// The same trail in millimetres.
 pub fn in_millimetres(fixes: &[Fix]) -> Vec<MillimetreFix> {
-    let fix = |Fix { t, x, y }| MillimetreFix { t, x, y };
+    let fix = |Fix { t, x, y, .. }| MillimetreFix { t, x, y };
     ten_times(fixes).into_iter().map(fix).collect()
 }
 
@@ -121,10 +121,6 @@ pub fn typical(n: usize) -> Vec<Fix> {
         cart.wait();
         cart.visit_another_belt();
     }
-    let fix = |(t, &(x, y)): (u32, &(i64, i64))| Fix {
-        t,
-        x: x as i32,
-        y: y as i32,
-    };
+    let fix = |(t, &(x, y)): (u32, &(i64, i64))| Fix::from((t, x as i32, y as i32));
     (CLOCK..).zip(&cart.seen[..n]).map(fix).collect()
 }

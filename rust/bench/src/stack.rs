@@ -9,7 +9,7 @@ use std::thread;
 
 use trails::in_threes;
 use trails_tests::interface;
-use trails_tests::plain::kinds::{Kind, CENTIMETRES, MILLIMETRES};
+use trails_tests::plain::kinds::{Kind, CENTIMETRES, MILLIMETRES, SILENCES};
 use trails_tests::plain::{Trail, MOST_FIXES};
 use trails_tests::shapes::{dearest, ten_times};
 
@@ -45,9 +45,10 @@ const fn deep(name: &'static str, kind: Kind, backwards: bool) -> Deep {
     }
 }
 
-const ALL: [Deep; 4] = [
+const ALL: [Deep; 5] = [
     deep("dear, forwards", CENTIMETRES, false),
     deep("dear, backwards", CENTIMETRES, true),
+    deep("silences, forwards", SILENCES, false),
     deep("millimetres, forwards", MILLIMETRES, false),
     deep("millimetres, backwards", MILLIMETRES, true),
 ];

@@ -5,10 +5,10 @@
 //! distances for each span. Beside that one the proved call would only look quick. So this one is written to be quick, is
 //! held to the proved call's answer before the clock starts, and is only timed.
 
-use trails::InUnit;
+use trails::OfKind;
 
 /// A fix of which a list can be thinned.
-pub trait Thinned: InUnit {
+pub trait Thinned: OfKind {
     /// What stays at a tolerance, and the count.
     fn thin(fixes: &[Self], e: u16) -> (Vec<Self>, u32);
 }

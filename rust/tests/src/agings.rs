@@ -5,18 +5,18 @@ use crate::expected;
 use crate::interface::{self, Answer};
 use crate::plain::kinds::{Kind, KINDS};
 use crate::plain::lists::Call;
-use crate::plain::place::{Place, Time, FINEST};
+use crate::plain::place::{is_silent, Place, Time, FINEST};
 use crate::plain::{read, Fix, Trail};
 
 impl Call {
-    /// Any call: small tolerances and the limits of either kind are likelier than others, and some are refused.
+    /// Any call: small tolerances and the limits of every kind are likelier than others, and some are refused.
     pub fn any(kind: Kind, random: &mut Random) -> Call {
         let least = random.between(0, 12) as u16;
         let low = kind.times * random.between(0, 300) as u16;
         let high = random.between(0, 20_000) as u16;
         let any = random.between(0, 65_535) as u16;
-        let [one, other] = KINDS.map(|kind| kind.top);
-        let edge = random.pick(&[0, 1, one, one + 1, other, other + 1, 65_535]);
+        let top = random.pick(&KINDS).top;
+        let edge = random.pick(&[0, 1, top, top + 1, top, top + 1, 65_535]);
         let days = random.pick(&[0, 1, 2, 6, 7, 29, 30, 89, 90, 65_535]);
         random.pick(&[
             Call::Tolerance(least),
@@ -115,9 +115,15 @@ fn times(fixes: &[Fix], random: &mut Random) -> Vec<Time> {
     all
 }
 
-/// The bound: at each of many times the aged trail is at most E from the original.
+/// The bound: at each of many times outside silences the aged trail is at most E from the original. It has the same
+/// silences.
 pub fn stays_near(original: &[Fix], aged: &[Fix], e: u16, name: &str, random: &mut Random) {
     for time in times(original, random) {
+        let silent = is_silent(original, time);
+        assert_eq!(is_silent(aged, time), silent, "{name}, at {time:?}");
+        if silent {
+            continue;
+        }
         let was = Place::at(original, time);
         let is = Place::at(aged, time);
         assert!(was.near(&is, e), "{name}, at {time:?}: {was:?} {is:?}");

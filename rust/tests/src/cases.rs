@@ -2,7 +2,7 @@
 
 use std::collections::BTreeMap;
 
-use crate::plain::kinds::{Kind, CENTIMETRES, KINDS, MILLIMETRES};
+use crate::plain::kinds::{Kind, KINDS, MILLIMETRES};
 use crate::plain::{encode, Fix, Head, Trail, LONGEST, MOST_FIXES, NEVER};
 
 /// What a run tries: a fixed seed and count, unless TRAILS_SEED and TRAILS_CASES say otherwise.
@@ -105,12 +105,32 @@ fn coordinate(kind: Kind, random: &mut Random) -> i32 {
 /// An accepted list of n fixes.
 pub fn fixes(kind: Kind, random: &mut Random, n: usize) -> Vec<Fix> {
     let times = times(random, n);
-    let place = |t| Fix {
-        t,
-        x: coordinate(kind, random),
-        y: coordinate(kind, random),
+    let place = |t| Fix::from((t, coordinate(kind, random), coordinate(kind, random)));
+    let mut fixes: Vec<Fix> = times.into_iter().map(place).collect();
+    fall_silent(kind, &mut fixes, random);
+    fixes
+}
+
+/// Sets the silence bytes, if the kind has them: to 1 for no fix, the first alone, the last that can have it, both
+/// these, all that can, or some.
+pub fn fall_silent(kind: Kind, fixes: &mut [Fix], random: &mut Random) {
+    let Some((_, all)) = fixes.split_last_mut().filter(|_| kind.silences) else {
+        return;
     };
-    times.into_iter().map(place).collect()
+    let last = all.len().saturating_sub(1);
+    let sort = random.between(0, 7);
+    let one_in = random.pick(&[2, 3, 10, 40]);
+    for (k, fix) in all.iter_mut().enumerate() {
+        let silent = match sort {
+            0 => false,
+            1 => k == 0,
+            2 => k == last,
+            3 => k == 0 || k == last,
+            4 => true,
+            _ => random.one_in(one_in),
+        };
+        fix.silence = silent.into();
+    }
 }
 
 /// Coordinates outside the hall: next to it, as far as their bytes go, and where they are four, also some that two of
@@ -147,7 +167,7 @@ fn disorder(fixes: &mut [Fix], random: &mut Random) {
 }
 
 /// Check 9 fails: a span above 65,535 seconds, with the times in order.
-fn stretch(fixes: &mut [Fix], random: &mut Random) {
+fn overrun(fixes: &mut [Fix], random: &mut Random) {
     let more = random.between(0, 1_000_000);
     let span = 65_536 + random.pick(&[0, more]) as u32;
     let last = fixes.len() - 1;
@@ -157,20 +177,57 @@ fn stretch(fixes: &mut [Fix], random: &mut Random) {
     }
 }
 
+/// Check 20 fails: a silence byte that is neither 0 nor 1, or a last fix that says a silence follows.
+fn missay(fixes: &mut [Fix], random: &mut Random) {
+    let last = fixes.len() - 1;
+    let at = random.between(0, last as i64) as usize;
+    let any = random.between(2, 255) as u8;
+    match random.between(0, 2) {
+        0 => fixes[last].silence = 1,
+        1 => fixes[at].silence = random.pick(&[2, 3, 128, 254, 255, any]),
+        _ => fixes[last].silence = any,
+    }
+}
+
 /// A kind whose fixes are lent to its writer, in columns of four bytes whatever a record has.
 pub fn in_columns(kind: Kind) -> Kind {
     Kind { width: 4, ..kind }
 }
 
-/// Makes the sentence of check 7, 8 or 9 true of two or more fixes that are accepted, or have faults of later
-/// checks only.
+/// Makes the sentence of check 7, 8, 9 or 20 true of two or more fixes that are accepted, or have faults of later
+/// checks only. Of one fix 8 and 9 can't be.
 pub fn spoil(fault: u8, kind: Kind, fixes: &mut [Fix], random: &mut Random) {
     match fault {
         7 => misplace(kind, fixes, random),
         8 => disorder(fixes, random),
-        9 => stretch(fixes, random),
+        9 => overrun(fixes, random),
+        20 => missay(fixes, random),
         other => panic!("no fault of fixes has the number {other}"),
     }
+}
+
+/// What a list of this kind can be refused for besides its count, in checking order.
+pub fn faults_of_fixes(kind: Kind) -> Vec<u8> {
+    faults(kind)
+        .into_iter()
+        .filter(|&fault| fault >= 7)
+        .collect()
+}
+
+/// What a record of this kind can be refused for, in checking order.
+pub fn faults(kind: Kind) -> Vec<u8> {
+    let checks = (1..=9).chain([20]);
+    checks
+        .filter(|&check| kind.can_fail(check.into()))
+        .collect()
+}
+
+/// So many faults, or less if some are the same, from the latest check's to the first's.
+pub fn some_faults(from: &[u8], many: i64, random: &mut Random) -> Vec<u8> {
+    let mut some: Vec<u8> = (0..many).map(|_| random.pick(from)).collect();
+    some.sort_by(|a, b| b.cmp(a));
+    some.dedup();
+    some
 }
 
 // ---- records
@@ -230,10 +287,10 @@ impl Draft {
         self.head.length = self.kind.record_length(count.into()) as u32;
     }
 
-    /// Says that it is of the other kind. Half of the time the length stays, and is wrong then; else it is the other
+    /// Says that it is of another kind. Half of the time the length stays, and is wrong then; else it is the other
     /// kind's of as many fixes, and bytes may follow, so that these are there in full.
     pub fn claim_another_kind(&mut self, random: &mut Random) {
-        let other = another(self.kind);
+        let other = another(self.kind, random);
         let length = other.record_length(self.fixes.len());
         self.head.kind = other.code;
         if random.one_in(2) {
@@ -250,7 +307,7 @@ impl Draft {
         let length = self.kind.record_length(count) as u32;
         match fault {
             1 => self.lent = Some(random.between(0, 9) as usize),
-            2 => self.head.kind = random.pick(&[0, 3, 256, 257, 258, 512, 65_535]),
+            2 => self.head.kind = random.pick(&[0, 4, 256, 257, 258, 259, 512, 768, 65_535]),
             3 => {
                 // a length that was wrong already stays so
                 let wrong = (self.head.length != length).then_some(self.head.length);
@@ -264,7 +321,7 @@ impl Draft {
                     length - 1,
                     length + 1,
                     length + self.kind.fix_bytes() as u32,
-                    another(self.kind).record_length(count) as u32,
+                    another(self.kind, random).record_length(count) as u32,
                     length << 8,
                     u32::MAX,
                 ];
@@ -281,12 +338,10 @@ impl Draft {
     }
 }
 
-/// The other of the two kinds.
-fn another(kind: Kind) -> Kind {
-    match kind {
-        CENTIMETRES => MILLIMETRES,
-        _ => CENTIMETRES,
-    }
+/// One of the other kinds.
+fn another(kind: Kind, random: &mut Random) -> Kind {
+    let others: Vec<Kind> = KINDS.into_iter().filter(|one| *one != kind).collect();
+    random.pick(&others)
 }
 
 /// A buffer that begins with the record of a trail, and goes on.
@@ -337,6 +392,7 @@ impl Cases {
             };
             cases.sizes();
             cases.edges();
+            cases.silences();
             cases.pairs();
             cases.lengths();
             cases.other_kind();
@@ -384,7 +440,7 @@ impl Cases {
 
     /// Each limit met, and passed by one.
     fn edges(&mut self) {
-        let fix = |t, x, y| Fix { t, x, y };
+        let fix = |t, x, y| Fix::from((t, x, y));
         let top = u32::MAX;
         let most = self.kind.limit;
         let mut trails = vec![
@@ -413,6 +469,30 @@ impl Cases {
         }
     }
 
+    /// Silence bytes that can be and can't, also beside the faults of checks before and after 20.
+    fn silences(&mut self) {
+        if !self.kind.silences {
+            return;
+        }
+        let two = |a, b| vec![Fix::from((5, 0, 0, a)), Fix::from((6, 0, 0, b))];
+        let mut late = two(1, 1);
+        late[1].t = 65_541;
+        for (number, fixes) in [
+            (0, two(0, 0)),
+            (0, two(1, 0)),
+            (20, two(0, 1)),
+            (20, two(1, 1)),
+            (20, two(2, 0)),
+            (20, two(255, 0)),
+            (20, two(0, 128)),
+            (20, vec![Fix::from((5, 0, 0, 1))]),
+            (20, vec![Fix::from((5, 0, 0, 2))]),
+            (9, late),
+        ] {
+            self.edge(fixes, NEVER, number);
+        }
+    }
+
     fn edge(&mut self, fixes: Vec<Fix>, mark: u16, known: u8) {
         let name = format!("{fixes:?}, mark {mark}");
         let kind = self.kind;
@@ -422,9 +502,10 @@ impl Cases {
 
     /// Every fault, and every two at once: the earlier one's number is the answer.
     fn pairs(&mut self) {
+        let all = faults(self.kind);
         for n in [2, 3, 20] {
-            for first in 1..=9 {
-                for second in first..=9 {
+            for (k, &first) in all.iter().enumerate() {
+                for &second in &all[k..] {
                     let mut faults = vec![second, first];
                     faults.dedup();
                     self.faults(n, &faults);
@@ -461,14 +542,14 @@ impl Cases {
         }
     }
 
-    /// Records that say they are of the other kind. A record has another length in each, so if that stays it is wrong.
+    /// Records that say they are of another kind. A record has another length in each, so if that stays it is wrong.
     fn other_kind(&mut self) {
         for n in 1..=30 {
             let mut draft = self.accepted(n);
             let before = draft.head.length;
             draft.claim_another_kind(&mut self.random);
             let known = (draft.head.length == before).then_some(4);
-            let name = format!("{n} fixes that say they are of the other kind");
+            let name = format!("{n} fixes that say they are of another kind");
             self.add(name, draft.bytes(), known);
         }
     }
@@ -500,9 +581,7 @@ impl Cases {
         for _ in 0..self.share() {
             let n = self.random.between(2, 40) as usize;
             let most = self.random.between(0, 3);
-            let mut faults: Vec<u8> = (0..most).map(|_| self.random.between(1, 9) as u8).collect();
-            faults.sort_by(|a, b| b.cmp(a));
-            faults.dedup();
+            let faults = some_faults(&faults(self.kind), most, &mut self.random);
             self.faults(n, &faults);
         }
     }
@@ -517,10 +596,12 @@ impl Tally {
         *self.0.entry((kind.code, refusal)).or_default() += 1;
     }
 
-    /// Prints the counts and fails if one of these refusals, or none at all, was never given to a kind.
+    /// Prints the counts and fails if one of these refusals, or none at all, was never given to a kind that can have
+    /// it.
     pub fn expect(&self, what: &str, refusals: &[u32]) {
         for kind in KINDS {
-            for &refusal in [&[0], refusals].concat().iter() {
+            let all = [&[0], refusals].concat();
+            for refusal in all.into_iter().filter(|&refusal| kind.can_fail(refusal)) {
                 let many = self.0.get(&(kind.code, refusal)).copied().unwrap_or(0);
                 println!("{what}, {kind}: refusal {refusal} given {many} times");
                 assert!(many > 0, "{what}, {kind}: refusal {refusal} never given");

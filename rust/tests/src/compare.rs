@@ -1,11 +1,11 @@
 //! One operation on one lent buffer, by the proved functions and by the plain version: what each answers, and what is
-//! lent afterwards. `draw` draws such cases, `twin` moves one in time, `tenfold` has one in millimetres, `minimise`
+//! lent afterwards. `draw` draws such cases, `twin` moves one in time, `recast` has one in another kind, `minimise`
 //! makes one smaller, and `table` counts what was met.
 
 pub mod draw;
 pub mod minimise;
+pub mod recast;
 pub mod table;
-pub mod tenfold;
 pub mod twin;
 
 use crate::cases::{kind_of, Random, Settings};
@@ -195,7 +195,7 @@ pub fn plain(case: &Case) -> Outcome {
         }
         Operation::ReadAll(columns) => Reply::Answer(expected::read_all(buffer, columns)),
         Operation::Write(kind, columns) => {
-            Reply::Answer(expected::write(*kind, &columns.fixes(), buffer))
+            Reply::Answer(expected::write(*kind, &columns.fixes(*kind), buffer))
         }
         Operation::List => {
             let listing = plain::listing(buffer).into_bytes();
@@ -237,14 +237,14 @@ impl Sides<'_> {
         twin::differing(self.proved, case).is_some()
     }
 
-    /// Whether it answers the case in millimetres otherwise.
-    fn tenfold_differs(&self, case: &Case) -> bool {
-        tenfold::differing(self.proved, case).is_some()
+    /// Whether it answers the case of another kind otherwise.
+    fn kinds_differ(&self, case: &Case) -> bool {
+        recast::differing(self.proved, case).is_some()
     }
 }
 
-/// Draws cases until all are tried or one shows a difference, between the sides, from a twin or from the same in
-/// millimetres, which is given back as small as it can be made and still shows that.
+/// Draws cases until all are tried or one shows a difference, between the sides, from a twin or from the same of
+/// another kind, which is given back as small as it can be made and still shows that.
 pub fn run(settings: Settings, sides: Sides) -> Result<table::Table, Box<Case>> {
     let mut random = Random::new(settings.seed);
     let mut table = table::Table::default();
@@ -258,12 +258,12 @@ pub fn run(settings: Settings, sides: Sides) -> Result<table::Table, Box<Case>> 
         if sides.twins_differ(&case) {
             return smallest(case, &|case| sides.twins_differ(case));
         }
-        if sides.tenfold_differs(&case) {
-            return smallest(case, &|case| sides.tenfold_differs(case));
+        if sides.kinds_differ(&case) {
+            return smallest(case, &|case| sides.kinds_differ(case));
         }
         table.count(&case, made, &outcome.reply);
         table.twins += twin::shifts(&case).len();
-        table.tenfold += usize::from(tenfold::tenfold(&case).is_some());
+        table.recast(&case);
     }
     Ok(table)
 }

@@ -36,7 +36,7 @@ pub fn check(lent: &[u8]) -> Head {
 
 pub fn read(lent: &[u8], position: usize) -> Step {
     let fix = |trail: &Trail| {
-        let Fix { t, x, y } = *trail.fixes.get(position)?;
+        let Fix { t, x, y, silence } = *trail.fixes.get(position)?;
         Some(Step {
             refusal: 0,
             found: 1,
@@ -44,6 +44,7 @@ pub fn read(lent: &[u8], position: usize) -> Step {
             t,
             x,
             y,
+            silence: silence.into(),
         })
     };
     let (refusal, found) = told(plain::read(lent).map(|trail| fix(&trail)));

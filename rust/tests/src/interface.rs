@@ -7,20 +7,21 @@ pub use offered::{Answer, Crossing, Head, Place, Run, Step, LONGEST_TEXT};
 
 use crate::columns::Columns;
 use crate::plain::crossing::Question;
-use crate::plain::kinds::{Kind, CENTIMETRES};
+use crate::plain::kinds::{Kind, CENTIMETRES, MILLIMETRES};
 
 pub fn read_all(record: &[u8], columns: &mut Columns) -> Answer {
-    offered::read_all(record, &mut columns.t, &mut columns.x, &mut columns.y)
+    let Columns { t, x, y, silence } = columns;
+    offered::read_all(record, t, x, y, silence)
 }
 
 /// By the writer of this kind.
 pub fn write(kind: Kind, columns: &Columns, output: &mut [u8]) -> Answer {
-    let Columns { t, x, y } = columns;
-    let write = match kind {
-        CENTIMETRES => offered::write,
-        _ => offered::write_millimetres,
-    };
-    write(t, x, y, output)
+    let Columns { t, x, y, silence } = columns;
+    match kind {
+        CENTIMETRES => offered::write(t, x, y, output),
+        MILLIMETRES => offered::write_millimetres(t, x, y, output),
+        _ => offered::write_silences(t, x, y, silence, output),
+    }
 }
 
 /// A question as it is lent to the interface.

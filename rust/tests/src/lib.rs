@@ -1,4 +1,4 @@
-//! The proved functions beside a plain Rust version of documents 01 and 02, on many records of both kinds.
+//! The proved functions beside a plain Rust version of documents 01 and 02, on many records of all kinds.
 //!
 //! The proofs say that each function equals its definition. These tests ask what no proof can say: that the
 //! definitions mean what somebody else reads in the documents, and that the compiled archive and the C interface

@@ -1,5 +1,5 @@
 //! A plain version of document 01 and of what document 02 has changed since: the trail record with its checks, reader,
-//! writers and listing here, its two kinds in `kinds`, thinning and aging in `thinning`, lists of agings in `lists`,
+//! writers and listing here, its three kinds in `kinds`, thinning and aging in `thinning`, lists of agings in `lists`,
 //! places at fractional times in `place`, and the two questions in `moment` and `crossing`.
 //!
 //! It follows the documents' sentences one by one. It takes nothing from the proved code, so that a misreading there
@@ -25,18 +25,27 @@ pub const LONGEST: usize = 49_162;
 
 const HEAD: usize = 10;
 
-/// A time in seconds, and a place in the record's unit.
+/// A time in seconds, a place in the record's unit, and kind 3's byte after them, which of other kinds is 0.
 #[derive(Clone, Copy, Debug, PartialEq, Eq)]
 pub struct Fix {
     pub t: u32,
     pub x: i32,
     pub y: i32,
+    /// "1 = silence follows, 0 = none"
+    pub silence: u8,
 }
 
 /// Time, x and y, as trails are written by hand.
 impl From<(u32, i32, i32)> for Fix {
     fn from((t, x, y): (u32, i32, i32)) -> Fix {
-        Fix { t, x, y }
+        Fix::from((t, x, y, 0))
+    }
+}
+
+/// The same, and the silence byte.
+impl From<(u32, i32, i32, u8)> for Fix {
+    fn from((t, x, y, silence): (u32, i32, i32, u8)) -> Fix {
+        Fix { t, x, y, silence }
     }
 }
 
@@ -96,8 +105,22 @@ impl Fix {
             t: four(bytes, 0),
             x: coordinate(4),
             y: coordinate(4 + kind.width),
+            silence: match kind.silences {
+                true => bytes[4 + 2 * kind.width],
+                false => 0,
+            },
         }
     }
+
+    pub fn is_before_silence(&self) -> bool {
+        self.silence == 1
+    }
+}
+
+/// The stretches between silences: each "runs from a fix after a silence, or the first, to the next fix whose byte is
+/// 1, or the last".
+pub fn stretches(fixes: &[Fix]) -> impl Iterator<Item = &[Fix]> {
+    fixes.split_inclusive(Fix::is_before_silence)
 }
 
 /// The bytes of a head and of fixes as this kind has them, which need not fit each other.
@@ -112,6 +135,7 @@ pub fn encode(kind: Kind, head: Head, fixes: &[Fix]) -> Vec<u8> {
         // in two's complement a number that fits fewer bytes has its lowest ones there
         bytes.extend(&fix.x.to_le_bytes()[..kind.width]);
         bytes.extend(&fix.y.to_le_bytes()[..kind.width]);
+        bytes.extend(kind.silences.then_some(fix.silence));
     }
     bytes
 }
@@ -141,16 +165,22 @@ fn bad_count(count: usize) -> bool {
     count == 0 || count > MOST_FIXES
 }
 
-/// Checks 7 to 9.
+/// Checks 7 to 9 and, "directly after 9", 20.
 fn check_fixes(kind: Kind, fixes: &[Fix]) -> Result<(), u8> {
     let outside = |fix: &Fix| kind.is_outside(fix.x) || kind.is_outside(fix.y);
     refuse_if(7, fixes.iter().any(outside))?;
     refuse_if(8, fixes.windows(2).any(|pair| pair[1].t <= pair[0].t))?;
     let time = |fix: Option<&Fix>| fix.map_or(0, |fix| i64::from(fix.t));
-    refuse_if(9, time(fixes.last()) - time(fixes.first()) > 65_535)
+    refuse_if(9, time(fixes.last()) - time(fixes.first()) > 65_535)?;
+    refuse_if(20, kind.silences && bad_silences(fixes))
 }
 
-/// The record that the lent bytes begin with, or the number of the refusal: checks 1 to 9.
+/// "a silence byte is neither 0 nor 1 or the last fix has 1"
+fn bad_silences(fixes: &[Fix]) -> bool {
+    fixes.iter().any(|fix| fix.silence > 1) || fixes.last().is_some_and(Fix::is_before_silence)
+}
+
+/// The record that the lent bytes begin with, or the number of the refusal: checks 1 to 9 and 20.
 pub fn read(lent: &[u8]) -> Result<Trail, u8> {
     let head = Head::decode(lent).ok_or(1)?;
     let kind = Kind::with_code(head.kind).ok_or(2)?;
@@ -169,7 +199,7 @@ pub fn read(lent: &[u8]) -> Result<Trail, u8> {
     })
 }
 
-/// The writer of a kind, which makes checks 3, 7, 8, 9 and 15 and answers the record's length.
+/// The writer of a kind, which makes checks 3, 7, 8, 9, 20 and 15 and answers the record's length.
 pub fn write(kind: Kind, fixes: &[Fix], output: &mut [u8]) -> Result<usize, u8> {
     let length = kind.record_length(fixes.len());
     refuse_if(3, bad_count(fixes.len()))?;
@@ -206,7 +236,13 @@ pub fn listing(input: &[u8]) -> String {
     };
     let mut text = format!("trail {} {mark}\n", trail.fixes.len());
     for fix in &trail.fixes {
-        text += &format!("fix {} {} {}\n", fix.t, fix.x, fix.y);
+        // "ends a fix's line with ` silence` where one follows"
+        let silence = if fix.is_before_silence() {
+            " silence"
+        } else {
+            ""
+        };
+        text += &format!("fix {} {} {}{silence}\n", fix.t, fix.x, fix.y);
     }
     text + "end\n"
 }

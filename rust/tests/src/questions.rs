@@ -5,7 +5,7 @@ use crate::expected;
 use crate::interface::{self, Crossing};
 use crate::plain::crossing::{self, Area, Question, Window};
 use crate::plain::kinds::{Kind, CENTIMETRES, KINDS};
-use crate::plain::place::Time;
+use crate::plain::place::{is_silent, Time};
 use crate::plain::{self, Fix, Trail};
 use crate::shapes::{trail, SHAPES};
 
@@ -23,6 +23,12 @@ fn second(fixes: &[Fix], random: &mut Random) -> u32 {
     random.pick(&[any, any, fix, fix, before, after, first, last])
 }
 
+/// The two ends of each silence.
+fn silences(fixes: &[Fix]) -> Vec<(Fix, Fix)> {
+    let legs = fixes.windows(2).filter(|leg| leg[0].is_before_silence());
+    legs.map(|leg| (leg[0], leg[1])).collect()
+}
+
 // ---- any question
 
 /// A question that can be asked of a trail.
@@ -33,17 +39,33 @@ pub trait Asked: Sized + std::fmt::Debug {
     /// Makes the sentence of this check true.
     fn spoil(&mut self, fault: u8, trail: &Trail, random: &mut Random);
 
-    /// A question with these faults about the record. Of one that is turned away, any question will do.
-    fn spoiled(record: &[u8], faults: &[u8], random: &mut Random) -> Self {
+    /// Whether a question about this trail can have this fault.
+    fn can_have(_fault: u8, _trail: &Trail) -> bool {
+        true
+    }
+
+    /// A question with those of these faults about the record that it can have. Of one that is turned away, any
+    /// question will do.
+    fn spoiled(record: &[u8], faults: &[u8], random: &mut Random) -> Spoiled<Self> {
         let kind = kind_of(record, CENTIMETRES);
         let trail = plain::read(record)
             .unwrap_or_else(|_| Trail::never_thinned(kind, fixes(kind, random, 2)));
+        let faults = faults.iter().copied();
+        let faults: Vec<u8> = faults
+            .filter(|&fault| Self::can_have(fault, &trail))
+            .collect();
         let mut question = Self::good(&trail, random);
-        for &fault in faults {
+        for &fault in &faults {
             question.spoil(fault, &trail, random);
         }
-        question
+        Spoiled { question, faults }
     }
+}
+
+/// A question, and the faults that it has.
+pub struct Spoiled<Q> {
+    pub question: Q,
+    pub faults: Vec<u8>,
 }
 
 /// Asks every case questions with each of these sets of faults: a record's own refusal comes before the question's, and
@@ -57,11 +79,11 @@ pub fn refused_in_order<Q: Asked>(
     let mut random = Random::new(settings.seed);
     for case in Cases::all(settings) {
         for some in faults {
-            let question = Q::spoiled(&case.bytes, some, &mut random);
-            let name = format!("{}, faults {some:?}", case.name);
+            let Spoiled { question, faults } = Q::spoiled(&case.bytes, some, &mut random);
+            let name = format!("{}, faults {faults:?}", case.name);
             let refusal = ask(&case.bytes, &question, &name);
             if let Some(known) = case.known {
-                let fault = some.iter().copied().min().unwrap_or(0);
+                let fault = faults.iter().copied().min().unwrap_or(0);
                 let known = if known == 0 { fault } else { known };
                 assert_eq!(refusal, known.into(), "{name}, {question:?}");
             }
@@ -96,13 +118,22 @@ pub struct Moment {
     pub thousandths: u16,
 }
 
+impl Moment {
+    fn time(self) -> Time {
+        Time {
+            p: 1_000 * i128::from(self.second) + i128::from(self.thousandths),
+            q: 1_000,
+        }
+    }
+}
+
 impl Asked for Moment {
-    /// From the first fix to the last.
+    /// From the first fix to the last, and at an end of a silence rather than inside.
     fn good(trail: &Trail, random: &mut Random) -> Moment {
         let second = second(&trail.fixes, random);
         let any = random.between(0, 999) as u16;
         let thousandths = random.pick(&[0, 0, 1, 499, 500, 501, 999, any, any]);
-        Moment {
+        let moment = Moment {
             second,
             // no thousandth is left after the last second
             thousandths: if second == ends(&trail.fixes).1 {
@@ -110,10 +141,23 @@ impl Asked for Moment {
             } else {
                 thousandths
             },
+        };
+        if !is_silent(&trail.fixes, moment.time()) {
+            return moment;
+        }
+        let (from, to) = random.pick(&silences(&trail.fixes));
+        Moment {
+            second: random.pick(&[from.t, to.t]),
+            thousandths: 0,
         }
     }
 
-    /// Makes the sentence of check 12 true and not that of 11, or that of 11 true.
+    /// Check 21 needs a silence.
+    fn can_have(fault: u8, trail: &Trail) -> bool {
+        fault != 21 || !silences(&trail.fixes).is_empty()
+    }
+
+    /// Makes the sentence of check 12 or 21 true and not that of 11, or that of 11 true.
     fn spoil(&mut self, fault: u8, trail: &Trail, random: &mut Random) {
         let (first, last) = ends(&trail.fixes);
         match fault {
@@ -141,6 +185,15 @@ impl Asked for Moment {
                 let outside: Vec<Moment> = outside.into_iter().flatten().collect();
                 *self = random.pick(&outside);
             }
+            21 => {
+                // next to an end as often as anywhere
+                let (from, to) = random.pick(&silences(&trail.fixes));
+                let (first, last) = (1_000 * i64::from(from.t) + 1, 1_000 * i64::from(to.t) - 1);
+                let any = random.between(first, last);
+                let moment = random.pick(&[first, last, any, any]);
+                self.second = (moment / 1_000) as u32;
+                self.thousandths = (moment % 1_000) as u16;
+            }
             other => panic!("no fault of a moment has the number {other}"),
         }
     }
@@ -162,14 +215,25 @@ impl Window {
     fn good(fixes: &[Fix], random: &mut Random) -> Window {
         let (first, last) = ends(fixes);
         let (one, other) = (second(fixes, random), second(fixes, random));
+        let about = Window::about_a_silence(fixes, random).unwrap_or((first, one));
         let (start, end) = random.pick(&[
             (first, last),
             (one.min(other), one.max(other)),
             (one, one),
             (one, one.saturating_add(1).min(last)),
             (one, last),
+            about,
         ]);
         Window { start, end }
+    }
+
+    /// Inside a silence, or with one of its ends or both, if there is one that has a second inside.
+    fn about_a_silence(fixes: &[Fix], random: &mut Random) -> Option<(u32, u32)> {
+        let mut all = silences(fixes);
+        all.retain(|(from, to)| to.t - from.t >= 2);
+        let (from, to) = (!all.is_empty()).then(|| random.pick(&all))?;
+        let start = random.pick(&[from.t, from.t + 1]);
+        Some((start, random.pick(&[to.t, to.t - 1])))
     }
 
     fn bad(fixes: &[Fix], random: &mut Random) -> Window {
@@ -226,9 +290,23 @@ impl Area {
         }
     }
 
-    /// A box with its edges at or about the trail's places, so that many are touched or hardly missed.
+    /// A box with its edges at or about the trail's places, so that many are touched or hardly missed; or where a
+    /// straight line across a silence would have the cart.
     fn good(trail: &Trail, random: &mut Random) -> Area {
         let Trail { kind, fixes, .. } = trail;
+        let silences = silences(fixes);
+        if !silences.is_empty() && random.one_in(4) {
+            let (from, to) = random.pick(&silences);
+            let off = random.between(0, 2) as i32;
+            let middle = |from: i32, to: i32| {
+                let middle = (from + to) / 2;
+                (
+                    (middle - off).max(-kind.limit),
+                    (middle + off).min(kind.limit),
+                )
+            };
+            return Area::new(middle(from.x, to.x), middle(from.y, to.y));
+        }
         // a few neighbours, so that small boxes are near the trail on both axes
         let at = random.between(0, fixes.len() as i64 - 1) as usize;
         let some = &fixes[at..fixes.len().min(at + 3)];

@@ -2,7 +2,7 @@
 //! over hours, and with distances that differ in one word only; and the two of document 02 that are as long as a record
 //! can be.
 
-use crate::cases::{fixes, times, times_within, Random};
+use crate::cases::{fall_silent, fixes, times, times_within, Random};
 use crate::plain::kinds::{Kind, KINDS};
 use crate::plain::{Fix, Trail};
 
@@ -36,9 +36,9 @@ pub fn every_kind_and_shape() -> impl Iterator<Item = (Kind, Shape)> {
 /// A place in the making, which a step may have taken out of the hall.
 type Place = (i64, i64);
 
-/// An accepted trail of n fixes, never thinned.
+/// An accepted trail of n fixes, never thinned, with silences if its kind can have them.
 pub fn trail(kind: Kind, shape: Shape, n: usize, random: &mut Random) -> Trail {
-    let fixes = match shape {
+    let mut fixes = match shape {
         Shape::Wild => fixes(kind, random, n),
         Shape::Smooth => usual(kind, smooth(n, random), random),
         Shape::AtRest => usual(kind, at_rest(n, random), random),
@@ -47,6 +47,7 @@ pub fn trail(kind: Kind, shape: Shape, n: usize, random: &mut Random) -> Trail {
         Shape::Far => far(kind, n, random),
         Shape::Words => words(kind, n, random),
     };
+    fall_silent(kind, &mut fixes, random);
     Trail::never_thinned(kind, fixes)
 }
 
@@ -54,11 +55,7 @@ pub fn trail(kind: Kind, shape: Shape, n: usize, random: &mut Random) -> Trail {
 fn placed(kind: Kind, times: Vec<u32>, places: Vec<Place>) -> Vec<Fix> {
     let limit = i64::from(kind.limit);
     let inside = |c: i64| c.clamp(-limit, limit) as i32;
-    let fix = |(t, (x, y)): (u32, Place)| Fix {
-        t,
-        x: inside(x),
-        y: inside(y),
-    };
+    let fix = |(t, (x, y)): (u32, Place)| Fix::from((t, inside(x), inside(y)));
     times.into_iter().zip(places).map(fix).collect()
 }
 
@@ -219,31 +216,29 @@ fn aways(reach: i64, m: i64, random: &mut Random) -> Vec<Place> {
 pub fn dearest(n: usize) -> Vec<Fix> {
     let fix = |i: usize| {
         let far = (n - 1 - i) as i32;
-        Fix {
-            t: i as u32,
-            x: 0,
-            y: if i.is_multiple_of(2) { far } else { -far },
-        }
+        let y = if i.is_multiple_of(2) { far } else { -far };
+        Fix::from((i as u32, 0, y))
     };
     (0..n).map(fix).collect()
 }
 
 /// Document 02's smooth trail.
 pub fn curve(n: usize) -> Vec<Fix> {
-    let fix = |i: usize| Fix {
-        t: i as u32,
-        x: i as i32,
-        y: (i * i / 2_000) as i32,
-    };
+    let fix = |i: usize| Fix::from((i as u32, i as i32, (i * i / 2_000) as i32));
     (0..n).map(fix).collect()
 }
 
 /// The same places in millimetres.
 pub fn ten_times(fixes: &[Fix]) -> Vec<Fix> {
-    let finer = |fix: &Fix| Fix {
-        t: fix.t,
-        x: 10 * fix.x,
-        y: 10 * fix.y,
+    so_many_times(10, fixes)
+}
+
+/// Every place so many times as far.
+pub fn so_many_times(times: i32, fixes: &[Fix]) -> Vec<Fix> {
+    let further = |fix: &Fix| Fix {
+        x: times * fix.x,
+        y: times * fix.y,
+        ..*fix
     };
-    fixes.iter().map(finer).collect()
+    fixes.iter().map(further).collect()
 }

@@ -4,10 +4,10 @@
 use trails_tests::agings::{stays_near, Buffer};
 use trails_tests::cases::{Cases, Random, Settings, Tally};
 use trails_tests::compare::draw;
-use trails_tests::plain::kinds::{Kind, KINDS, MILLIMETRES};
+use trails_tests::plain::kinds::{Kind, CENTIMETRES, KINDS, MILLIMETRES, SILENCES};
 use trails_tests::plain::lists::Call;
 use trails_tests::plain::thinning::thin;
-use trails_tests::plain::{Trail, MOST_FIXES, NEVER};
+use trails_tests::plain::{stretches, Fix, Trail, MOST_FIXES, NEVER};
 use trails_tests::shapes::{trail, Shape, SHAPES};
 
 /// A run of calls, and how many left all fixes, some inner ones, and the ends only, so that none of these can be
@@ -50,6 +50,7 @@ impl Run {
         assert!(u64::from(answer.value) <= most, "{}", buffer.name);
         let aged = buffer.trail();
         let name = format!("{}, {call:?}", buffer.name);
+        keeps_the_ends(&original.fixes, &aged.fixes, &name);
         let expected = match (mark, call.applies(kind)) {
             (mark, None) => mark,
             (NEVER, Some(e)) => e,
@@ -62,7 +63,7 @@ impl Run {
         let which = if kept == n {
             0
         } else {
-            1 + usize::from(kept == 2)
+            1 + usize::from(kept == ends_of_stretches(&original.fixes))
         };
         self.left[which] += 1;
     }
@@ -81,6 +82,21 @@ impl Run {
             }
         }
     }
+}
+
+/// How many fixes begin or end a stretch, or do both.
+fn ends_of_stretches(fixes: &[Fix]) -> usize {
+    stretches(fixes).map(|stretch| stretch.len().min(2)).sum()
+}
+
+/// The first fix stays, the last, and both ends of each silence, and a fix that stays has its byte.
+fn keeps_the_ends(original: &[Fix], aged: &[Fix], name: &str) {
+    let ends = |fixes: &[Fix]| -> Vec<(Fix, Fix)> {
+        let end = |stretch: &[Fix]| (stretch[0], stretch[stretch.len() - 1]);
+        stretches(fixes).map(end).collect()
+    };
+    assert_eq!(ends(aged), ends(original), "{name}");
+    assert!(aged.iter().all(|fix| original.contains(fix)), "{name}");
 }
 
 /// Whether check 10 turns it away.
@@ -144,20 +160,20 @@ fn each_refusal_is_given_in_order_and_changes_no_byte() {
             Call::Days(_) => by_days.count(kind, answer.refusal),
         }
     }
-    by_tolerance.expect("aging", &[1, 2, 3, 4, 5, 6, 7, 8, 9, 10]);
-    by_days.expect("aging by days", &[1, 2, 3, 4, 5, 6, 7, 8, 9]);
+    by_tolerance.expect("aging", &[1, 2, 3, 4, 5, 6, 7, 8, 9, 20, 10]);
+    by_days.expect("aging by days", &[1, 2, 3, 4, 5, 6, 7, 8, 9, 20]);
 }
 
 #[test]
 fn the_limits_of_the_tolerance() {
     let mut run = Run::new();
     let tolerances = [
-        (0, [0, 0]),
-        (32_000, [0, 0]),
-        (32_001, [10, 0]),
-        (60_000, [10, 0]),
-        (60_001, [10, 10]),
-        (65_535, [10, 10]),
+        (0, [0, 0, 0]),
+        (32_000, [0, 0, 0]),
+        (32_001, [10, 0, 10]),
+        (60_000, [10, 0, 10]),
+        (60_001, [10, 10, 10]),
+        (65_535, [10, 10, 10]),
     ];
     for (k, kind) in KINDS.into_iter().enumerate() {
         let trail = trail(kind, Shape::Wild, 50, &mut run.random);
@@ -172,17 +188,17 @@ fn the_limits_of_the_tolerance() {
 }
 
 /// The first and the last day of each row of the table, and what applies then to each kind.
-const DAYS: [(u16, Option<[u16; 2]>); 10] = [
+const DAYS: [(u16, Option<[u16; 3]>); 10] = [
     (0, None),
     (1, None),
-    (2, Some([10, 100])),
-    (6, Some([10, 100])),
-    (7, Some([25, 250])),
-    (29, Some([25, 250])),
-    (30, Some([100, 1_000])),
-    (89, Some([100, 1_000])),
-    (90, Some([400, 4_000])),
-    (65_535, Some([400, 4_000])),
+    (2, Some([10, 100, 10])),
+    (6, Some([10, 100, 10])),
+    (7, Some([25, 250, 25])),
+    (29, Some([25, 250, 25])),
+    (30, Some([100, 1_000, 100])),
+    (89, Some([100, 1_000, 100])),
+    (90, Some([400, 4_000, 400])),
+    (65_535, Some([400, 4_000, 400])),
 ];
 
 #[test]
@@ -242,5 +258,34 @@ impl Run {
         let kept = thin(&trail.fixes, e).kept;
         assert_eq!(aged.fixes, kept, "{kind}, mark {mark}, {e}");
         assert_eq!(aged.mark, after, "{kind}, mark {mark}, {e}");
+    }
+}
+
+/// Each stretch between silences as a record of kind 1, aged by itself: the kept fixes one after the other, and the
+/// counts added.
+#[test]
+fn stretches_are_aged_each_by_itself() {
+    let mut run = Run::new();
+    for k in 0..run.settings.cases / 10 {
+        let shape = SHAPES[k % SHAPES.len()];
+        let n = run.random.between(1, 120) as usize;
+        let trail = trail(SILENCES, shape, n, &mut run.random);
+        let call = Call::Tolerance(run.random.pick(&[0, 1, 5, 60, 32_000]));
+        let mut whole = run.buffer(shape, &trail);
+        let answer = whole.age(call);
+        let (mut kept, mut count) = (Vec::new(), 0);
+        for stretch in stretches(&trail.fixes) {
+            let mut alone = stretch.to_vec();
+            let last = alone.len() - 1;
+            alone[last].silence = 0;
+            let mut buffer = run.buffer(shape, &Trail::never_thinned(CENTIMETRES, alone));
+            count += buffer.age(call).value;
+            kept.extend(buffer.trail().fixes);
+            let last = kept.len() - 1;
+            kept[last].silence = stretch[stretch.len() - 1].silence;
+        }
+        let name = format!("{}, {call:?}", whole.name);
+        assert_eq!((answer.refusal, answer.value), (0, count), "{name}");
+        assert_eq!(whole.trail().fixes, kept, "{name}");
     }
 }

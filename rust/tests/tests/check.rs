@@ -1,4 +1,4 @@
-//! Checks 1 to 9, on every case.
+//! Checks 1 to 9 and 20, on every case.
 #![forbid(unsafe_code)]
 
 use trails_tests::cases::{Cases, Settings, Tally};
@@ -16,10 +16,10 @@ fn each_case_is_answered_as_the_plain_version_does() {
         }
         tally.count(case.kind(), head.refusal);
     }
-    tally.expect("check", &[1, 2, 3, 4, 5, 6, 7, 8, 9]);
+    tally.expect("check", &[1, 2, 3, 4, 5, 6, 7, 8, 9, 20]);
 }
 
-/// Document 01's, and the same fix in millimetres.
+/// Document 01's, and the same fix with a silence byte and in millimetres.
 #[test]
 fn the_example_of_the_papers_is_accepted() {
     let mut example = vec![
@@ -32,6 +32,9 @@ fn the_example_of_the_papers_is_accepted() {
         mark: 65_535,
     };
     assert_eq!(check(&example), head(1));
+    example.push(0);
+    (example[0], example[4]) = (0x13, 3);
+    assert_eq!(check(&example), head(3));
     example.truncate(14);
     example.extend([0xF6, 0xFF, 0xFF, 0xFF, 20, 0, 0, 0]);
     (example[0], example[4]) = (0x16, 2);
@@ -57,6 +60,30 @@ fn the_limits_of_millimetres() {
     }
 }
 
+/// By hand: each silence byte of three fixes, and that check 20 comes after 9.
+#[test]
+fn the_silences_that_can_be() {
+    let answers = |last: u8, silences: [u8; 3]| {
+        let mut record = vec![37, 0, 0, 0, 3, 0, 0xFF, 0xFF, 3, 0];
+        for (k, silence) in (0..).zip(silences) {
+            let late = if k == 2 { last } else { 0 };
+            record.extend([k, 0, late, 0, 0, 0, 0, 0, silence]);
+        }
+        check(&record).refusal
+    };
+    for silences in [[0, 0, 0], [1, 0, 0], [0, 1, 0], [1, 1, 0]] {
+        assert_eq!(answers(0, silences), 0, "{silences:?}");
+    }
+    for byte in 1..=255 {
+        assert_eq!(answers(0, [0, 0, byte]), 20, "{byte}");
+        let inner = [answers(0, [byte, 0, 0]), answers(0, [0, byte, 0])];
+        let refused = if byte == 1 { 0 } else { 20 };
+        assert_eq!(inner, [refused; 2], "{byte}");
+    }
+    // 65,538 seconds
+    assert_eq!(answers(1, [2, 2, 1]), 9);
+}
+
 /// A kind is one of 16 bits, and a record that says another kind has another length.
 #[test]
 fn kinds_and_lengths_of_one_another() {
@@ -72,17 +99,24 @@ fn kinds_and_lengths_of_one_another() {
         (10 + 12 * 3 - 1, 2, 4),
         (10 + 12 * 3 + 1, 2, 4),
         (10 + 12 * 3, 1, 4),
-        (10 + 12 * 3, 3, 2),
+        (10 + 12 * 3, 3, 4),
+        (10 + 8 * 3, 3, 4),
+        (10 + 9 * 3, 1, 4),
+        (10 + 9 * 3, 2, 4),
         (10 + 12 * 3, 0, 2),
+        (10 + 12 * 3, 4, 2),
         (10 + 12 * 3, 258, 2),
         (10 + 12 * 3, 513, 2),
+        (10 + 9 * 3, 259, 2),
     ] {
         record[0] = length;
         record[4..6].copy_from_slice(&u16::to_le_bytes(kind));
         assert_eq!(check(&record).refusal, refusal, "{length}, kind {kind}");
     }
-    // the same bytes as kind 1: the second fix begins among the first one's old bytes, with time 0
-    record[0] = 10 + 8 * 3;
-    record[4..6].copy_from_slice(&[1, 0]);
-    assert_eq!(check(&record).refusal, 8);
+    // the same bytes as kinds 1 and 3: the second fix begins among the first one's old bytes, with time 0
+    for (kind, fix) in [(1, 8), (3, 9)] {
+        record[0] = 10 + fix * 3;
+        record[4..6].copy_from_slice(&[kind, 0]);
+        assert_eq!(check(&record).refusal, 8);
+    }
 }

@@ -6,9 +6,9 @@ use trails_tests::agings::{some_calls, Buffer};
 use trails_tests::cases::{kind_of, Random, Settings, Tally};
 use trails_tests::interface::{self, crosses_after, run};
 use trails_tests::plain::crossing::{crosses, telling_times, Area, Question, Window};
-use trails_tests::plain::kinds::{Kind, CENTIMETRES, KINDS, MILLIMETRES};
+use trails_tests::plain::kinds::{Kind, CENTIMETRES, KINDS, MILLIMETRES, SILENCES};
 use trails_tests::plain::lists::{self, Book, Call};
-use trails_tests::plain::place::{Place, Time};
+use trails_tests::plain::place::{is_silent, Place, Time};
 use trails_tests::plain::{Fix, Trail, MOST_FIXES};
 use trails_tests::questions::{agrees, refused_in_order, told, Asked as _};
 use trails_tests::shapes::{every_kind_and_shape, ten_times, trail, SHAPES};
@@ -118,7 +118,8 @@ fn leaves_what_the_book_says(
     book
 }
 
-/// A yes: at its time the original is within E of the box. Answers 0 if it is in the box, and 1 if it isn't.
+/// A yes: at its time, which isn't inside a silence, the original is within E of the box. Answers 0 if it is in the
+/// box, and 1 if it isn't.
 fn told_is_near(told: Time, original: &[Fix], question: &Question, e: u16, name: &str) -> usize {
     let time = Time {
         p: told.p + told.q * i128::from(original[0].t),
@@ -126,12 +127,14 @@ fn told_is_near(told: Time, original: &[Fix], question: &Question, e: u16, name:
     };
     let window = question.window;
     assert!(time.from_to(window.start, window.end), "{name}: {time:?}");
+    assert!(!is_silent(original, time), "{name}: {time:?}");
     let place = Place::at(original, time);
     assert!(question.area.within(&place, e), "{name}: {place:?}");
     usize::from(!question.area.holds(&place))
 }
 
-/// A no: whenever the original is in the box, it is at most E from one of its sides. Answers 1 if it is ever in it.
+/// A no: whenever the original is in the box outside silences, it is at most E from one of its sides. Answers 1 if it
+/// is ever in it.
 fn denied_is_outside(original: &[Fix], question: &Question, e: u16, name: &str) -> usize {
     let mut ever = 0;
     for time in telling_times(original, question, e) {
@@ -244,6 +247,36 @@ fn a_no_may_be_off_by_more_than_the_whole_number_below_e() {
     }
 }
 
+/// Document 01's trail c, with another cart's way before it and a silence between them. What an aging leaves out of one
+/// stretch is as far off as E lets it be, and inside the silence, where a straight line has the cart in the box, it
+/// says no.
+#[test]
+fn a_no_inside_a_silence_says_nothing_of_it() {
+    let fixes = [
+        (0, 0, 0, 0),
+        (5, 0, 1, 0),
+        (10, 0, 0, 1),
+        (20, 100, 0, 0),
+        (30, 130, 40, 0),
+        (40, 100, 0, 0),
+    ];
+    let original = Trail::never_thinned(SILENCES, fixes.map(Fix::from).into());
+    let calls = bound(SILENCES);
+    let mut run = Run::new();
+    // in the midst of the silence, and of all the time but its ends
+    let area = Area::new((50, 60), (-5, 5));
+    for window in [(15, 15), (11, 19), (0, 40)] {
+        let (start, end) = window;
+        let window = Window { start, end };
+        run.case("silence", &original, &calls, &Question { window, area });
+    }
+    assert_eq!((run.told, run.denied), ([0, 0], [3, 0]));
+    // 50 from the box at second 30, as c is without the silence
+    let question = at_second(30, Area::new((100, 100), (0, 0)));
+    run.case("silence", &original, &calls, &question);
+    assert_eq!(run.told, [0, 1]);
+}
+
 #[test]
 fn the_longest_trails_and_a_long_list() {
     let mut run = Run::new();
@@ -278,6 +311,6 @@ fn what_is_refused_is_left_as_it_was() {
     });
     tally.expect(
         "crossing after a list",
-        &[1, 2, 3, 4, 5, 6, 7, 8, 9, 13, 14],
+        &[1, 2, 3, 4, 5, 6, 7, 8, 9, 20, 13, 14],
     );
 }

@@ -1,5 +1,5 @@
 //! The comparison itself: it meets everything and finds no difference, and of one that is put in, between the sides,
-//! from a twin or from the same in millimetres, it shows the smallest case.
+//! from a twin or from the same of another kind, it shows the smallest case.
 #![forbid(unsafe_code)]
 
 use trails_tests::cases::Settings;
@@ -8,17 +8,20 @@ use trails_tests::compare::{plain, proved, run, Case, Crossed, Outcome, Reply};
 use trails_tests::compare::{Operation, Sides};
 use trails_tests::interface::Crossing;
 use trails_tests::plain::crossing::{Area, Question, Window};
-use trails_tests::plain::kinds::{Kind, CENTIMETRES, MILLIMETRES};
+use trails_tests::plain::kinds::{Kind, CENTIMETRES, MILLIMETRES, SILENCES};
 use trails_tests::plain::thinning::thin;
 use trails_tests::plain::{read, Fix, Trail, NEVER};
 use trails_tests::questions::Moment;
 
 const SETTINGS: Settings = Settings {
-    seed: 7,
-    cases: 20_000,
+    seed: 8,
+    cases: 30_000,
 };
 
-fn record_of(kind: Kind, mark: u16, fixes: &[(u32, i32, i32)]) -> Vec<u8> {
+fn record_of<F: Copy>(kind: Kind, mark: u16, fixes: &[F]) -> Vec<u8>
+where
+    Fix: From<F>,
+{
     let fixes = fixes.iter().copied().map(Fix::from).collect();
     Trail { kind, mark, fixes }.bytes()
 }
@@ -66,7 +69,7 @@ fn there_is_no_difference_and_nothing_is_missing() {
     let table = run(SETTINGS, sides).unwrap_or_else(|case| panic!("{case:?}"));
     println!("{table}");
     assert!(table.missing().is_empty(), "{:?}", table.missing());
-    assert!(table.to_string().ends_with("20000 cases, 0 differences"));
+    assert!(table.to_string().ends_with("30000 cases, 0 differences"));
 }
 
 #[test]
@@ -189,6 +192,67 @@ fn a_place_that_needs_four_bytes_is_shown_with_them() {
     assert_eq!(case.buffer, record_of(MILLIMETRES, 0, &[(0, 100_001, 0)]));
 }
 
+/// What only a silence can show is shown by one, with no more fixes than it takes.
+#[test]
+fn a_silence_that_is_lost_is_shown_by_two_fixes() {
+    let case = shown(|_, outcome| {
+        if let Reply::Steps(steps) = &mut outcome.reply {
+            steps.iter_mut().for_each(|step| step.silence = 0);
+        }
+    });
+    assert_eq!(case.operation, Operation::Read(vec![0]));
+    let smallest = record_of(SILENCES, 0, &[(0, 0, 0, 1), (0, 0, 0, 0)]);
+    // the second is later, by as little as can be
+    let mut later = smallest.clone();
+    later[19] = 1;
+    assert_eq!(case.buffer, later);
+}
+
+/// A thinning across silences keeps one fix less, of the fewest that can show it.
+#[test]
+fn a_silence_that_is_thinned_across_is_shown_with_3_fixes() {
+    let case = shown(|case, outcome| {
+        let (Operation::Age(e), Ok(mut trail)) = (&case.operation, read(&case.buffer)) else {
+            return;
+        };
+        let kept = thin(&trail.fixes, *e).kept.len();
+        trail.fixes.iter_mut().for_each(|fix| fix.silence = 0);
+        if *e <= trail.kind.top && thin(&trail.fixes, *e).kept.len() != kept {
+            outcome.after.buffer[0] ^= 0xFF;
+        }
+    });
+    assert_eq!(case.operation, Operation::Age(0));
+    let trail = read(&case.buffer).expect("it is accepted");
+    assert_eq!((trail.kind, trail.fixes.len()), (SILENCES, 3));
+}
+
+#[test]
+fn a_bad_silence_byte_that_is_taken_is_shown_by_one_fix() {
+    let case = shown(|_, outcome| {
+        if let Reply::Head(head) = &mut outcome.reply {
+            head.refusal %= 20;
+        }
+    });
+    assert_eq!(case.operation, Operation::Check);
+    assert_eq!(case.buffer, record_of(SILENCES, 0, &[(0, 0, 0, 1)]));
+}
+
+#[test]
+fn a_moment_in_a_silence_that_is_answered_is_shown_by_one_silence() {
+    let case = shown(|_, outcome| {
+        if let Reply::Place(place) = &mut outcome.reply {
+            place.refusal %= 21;
+        }
+    });
+    let moment = Moment {
+        second: 0,
+        thousandths: 1,
+    };
+    assert_eq!(case.operation, Operation::Place(moment));
+    let smallest = record_of(SILENCES, 0, &[(0, 0, 0, 1), (1, 0, 0, 0)]);
+    assert_eq!(case.buffer, smallest);
+}
+
 #[test]
 fn a_column_that_is_not_filled_to_its_end_is_shown_alone() {
     let case = shown(|case, outcome| {
@@ -205,7 +269,7 @@ fn a_column_that_is_not_filled_to_its_end_is_shown_alone() {
     let Operation::ReadAll(columns) = case.operation else {
         panic!("{case:?}");
     };
-    assert_eq!(columns.lengths(), [0, 0, 2]);
+    assert_eq!(columns.lengths(), [0, 0, 2, 0]);
     // the old number and the new one differ by 1
     let last = read(&case.buffer).expect("it is accepted").fixes[1].y;
     assert_eq!((last - columns.y[1]).abs(), 1, "{columns:?}, {last}");
@@ -225,6 +289,7 @@ fn a_place_that_the_writer_gets_wrong_is_shown_alone() {
         t: vec![0],
         x: vec![-101],
         y: vec![0],
+        silence: vec![],
     };
     assert_eq!(case.operation, Operation::Write(CENTIMETRES, columns));
     assert_eq!(case.buffer, [0; 18]);
@@ -255,7 +320,7 @@ fn a_crossing_that_is_missed_is_shown_by_one_leg() {
     let fixes = read(&case.buffer).expect("it is accepted").fixes;
     let times: Vec<u32> = fixes.iter().map(|fix| fix.t).collect();
     assert_eq!(times, [0, 1]);
-    // a way of 2 along one axis, as 0 to 2 or as -1 to 1, and a box that is one place on it
+    // a way of 2 along one axis, as 0 to 2 or as -1 to 1, and a box that is one place on it or begins there
     let off = fixes.iter().map(|fix| fix.x.abs() + fix.y.abs());
     assert_eq!(off.sum::<i32>(), 2, "{fixes:?}");
     let (Operation::Crosses(question) | Operation::CrossesAfter(_, question)) = case.operation
@@ -264,8 +329,8 @@ fn a_crossing_that_is_missed_is_shown_by_one_leg() {
     };
     assert_eq!(question.window, Window { start: 0, end: 1 });
     let area = question.area;
-    let (low, high) = ((area.left, area.bottom), (area.right, area.top));
-    assert_eq!(low, high, "{fixes:?}");
+    let wide = (area.right - area.left) + (area.top - area.bottom);
+    assert!((0..=1).contains(&wide), "{fixes:?}, {area:?}");
 }
 
 #[test]
@@ -363,7 +428,7 @@ fn seconds_that_are_cut_to_16_bits_are_shown_also_if_both_sides_do_it() {
     }
 }
 
-// ---- in millimetres
+// ---- of other kinds
 
 /// A side that takes coordinates in millimetres for others from 65,536 on.
 fn cut_wide(side: fn(&Case) -> Outcome) -> impl Fn(&Case) -> Outcome {
@@ -389,4 +454,30 @@ fn what_both_sides_do_to_millimetres_is_shown_by_the_same_in_centimetres() {
     // ten times as far is the first beyond 65,535, on either side
     let fixes = read(&case.buffer).expect("it is accepted").fixes;
     assert_eq!((fixes.len(), fixes[0].x.abs()), (1, 6_554));
+}
+
+/// A side that has another count of records that could have silences and have none.
+fn counts_silences(side: fn(&Case) -> Outcome) -> impl Fn(&Case) -> Outcome {
+    move |case| {
+        let mut outcome = side(case);
+        let silent = read(&case.buffer).is_ok_and(|trail| trail.kind == SILENCES);
+        if let (true, Operation::Days(_), Reply::Answer(answer)) =
+            (silent, &case.operation, &mut outcome.reply)
+        {
+            answer.value += 1;
+        }
+        outcome
+    }
+}
+
+/// If both sides do it, only what the same trail of kind 1 answers shows it.
+#[test]
+fn what_both_sides_do_to_silences_is_shown_by_the_same_without() {
+    let (one, other) = (counts_silences(proved), counts_silences(plain));
+    let case = shown_by(Sides {
+        proved: &one,
+        plain: &other,
+    });
+    assert_eq!(case.operation, Operation::Days(0));
+    assert_eq!(case.buffer, record(0, &[(0, 0, 0)]));
 }

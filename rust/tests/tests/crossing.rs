@@ -4,7 +4,7 @@
 use trails_tests::cases::{buffer, Random, Settings, Tally};
 use trails_tests::interface::{numbers, Crossing};
 use trails_tests::plain::crossing::{Area, Question, Window};
-use trails_tests::plain::kinds::{Kind, CENTIMETRES, KINDS, MILLIMETRES};
+use trails_tests::plain::kinds::{Kind, CENTIMETRES, KINDS, MILLIMETRES, SILENCES};
 use trails_tests::plain::place::Time;
 use trails_tests::plain::{Fix, Trail, MOST_FIXES};
 use trails_tests::questions::{asked_of_every_shape, crosses, refused_in_order, told, Asked as _};
@@ -12,9 +12,11 @@ use trails_tests::shapes::{trail, SHAPES};
 
 // ---- by hand
 
-/// A trail, and its questions: a window, the low and the high edge of x and of y, and the time of a yes.
+/// A trail, after which of its fixes a silence is, and its questions: a window, the low and the high edge of x and of
+/// y, and the time of a yes.
 struct Row {
     fixes: &'static [(u32, i32, i32)],
+    silent: &'static [usize],
     asked: &'static [Asked],
 }
 
@@ -27,7 +29,8 @@ fn record(kind: Kind, fixes: impl IntoIterator<Item = Fix>) -> Vec<u8> {
 
 impl Row {
     fn holds(&self, kind: Kind) {
-        let fixes = self.fixes.iter().copied().map(Fix::from);
+        let mut fixes: Vec<Fix> = self.fixes.iter().copied().map(Fix::from).collect();
+        self.silent.iter().for_each(|&k| fixes[k].silence = 1);
         let bytes = record(kind, fixes);
         for &((start, end), x, y, time) in self.asked {
             let question = Question {
@@ -53,6 +56,7 @@ impl Row {
 /// Document 01's trail l.
 const L: Row = Row {
     fixes: &[(0, 0, 0), (10, 100, 0)],
+    silent: &[],
     asked: &[
         ((0, 10), (33, 40), (-5, 5), Some((33, 10))),
         ((4, 10), (33, 40), (-5, 5), Some((4, 1))),
@@ -81,6 +85,7 @@ const L: Row = Row {
 /// Down a slope and up again: corners are touched, and both axes must be in the box at one time.
 const SLOPES: Row = Row {
     fixes: &[(100, 0, 0), (107, 7, -21), (114, 14, 0)],
+    silent: &[],
     asked: &[
         // a corner on the trail, and the corner moved by one
         ((100, 114), (3, 9), (-9, 5), Some((3, 1))),
@@ -103,6 +108,7 @@ const SLOPES: Row = Row {
 /// A cart that stands, goes, and stands again.
 const STANDING: Row = Row {
     fixes: &[(5, 1, 1), (6, 1, 1), (9, 3, 1), (20, 3, 1)],
+    silent: &[],
     asked: &[
         ((5, 20), (1, 1), (1, 1), Some((0, 1))),
         ((6, 20), (1, 1), (1, 1), Some((1, 1))),
@@ -116,6 +122,7 @@ const STANDING: Row = Row {
 
 const LONE: Row = Row {
     fixes: &[(u32::MAX, -16_000, 16_000)],
+    silent: &[],
     asked: &[
         (
             (u32::MAX, u32::MAX),
@@ -150,6 +157,7 @@ const WALLS: Row = Row {
         (4_294_901_760, -16_000, 16_000),
         (4_294_967_295, 16_000, -16_000),
     ],
+    silent: &[],
     asked: &[
         (
             (4_294_901_760, u32::MAX),
@@ -192,7 +200,7 @@ const WALLS: Row = Row {
     ],
 };
 
-/// What is asked in centimetres can be asked in millimetres too.
+/// What is asked in centimetres can be asked in millimetres too, and of a trail that could have silences.
 #[test]
 fn trails_worked_by_hand() {
     for row in [L, SLOPES, STANDING, LONE, WALLS] {
@@ -206,6 +214,7 @@ const FAR_WALLS: Row = Row {
         (4_294_901_760, -160_000, 160_000),
         (4_294_967_295, 160_000, -160_000),
     ],
+    silent: &[],
     asked: &[
         // 65,535 · 319,999 / 320,000
         (
@@ -252,6 +261,7 @@ const FAR_WALLS: Row = Row {
 /// Down a slope and up again, with a way of 21,000 in y and another of 7,000 in x.
 const FAR_SLOPES: Row = Row {
     fixes: &[(100, 0, 0), (107, 7_000, -21_000), (114, 14_000, 0)],
+    silent: &[],
     asked: &[
         // a millimetre is 1/3000 of a second in y and 1/1000 in x
         ((100, 114), (3_000, 9_000), (-9_000, 5), Some((3, 1))),
@@ -283,6 +293,85 @@ const FAR_SLOPES: Row = Row {
 fn trails_in_millimetres() {
     FAR_WALLS.holds(MILLIMETRES);
     FAR_SLOPES.holds(MILLIMETRES);
+}
+
+/// The slopes with a silence on the second leg: between its ends the cart is nowhere.
+const SILENT_SLOPE: Row = Row {
+    silent: &[1],
+    asked: &[
+        // on the first leg as before, and at each end of the silence
+        ((100, 114), (3, 5), (-11, -10), Some((10, 3))),
+        ((100, 114), (7, 7), (-21, -21), Some((7, 1))),
+        ((107, 107), (7, 7), (-21, -21), Some((7, 1))),
+        ((108, 114), (0, 14), (-1, 0), Some((14, 1))),
+        ((114, 114), (14, 14), (0, 0), Some((14, 1))),
+        // where a straight leg would have it, and not its ends
+        ((100, 114), (8, 13), (-10, -9), None),
+        ((100, 114), (8, 14), (-18, -1), None),
+        // a window strictly inside, and one that ends just before
+        ((108, 113), (-16_000, 16_000), (-16_000, 16_000), None),
+        ((110, 110), (10, 10), (-12, -12), None),
+        (
+            (108, 114),
+            (-16_000, 16_000),
+            (-16_000, 16_000),
+            Some((14, 1)),
+        ),
+        (
+            (107, 113),
+            (-16_000, 16_000),
+            (-16_000, 16_000),
+            Some((7, 1)),
+        ),
+    ],
+    ..SLOPES
+};
+
+/// Silent all the time, but for the fixes themselves, also where the cart stands.
+const SILENT_STANDING: Row = Row {
+    silent: &[0, 1, 2],
+    asked: &[
+        ((5, 20), (1, 1), (1, 1), Some((0, 1))),
+        ((6, 20), (1, 1), (1, 1), Some((1, 1))),
+        ((7, 20), (1, 1), (1, 1), None),
+        ((5, 20), (2, 2), (1, 1), None),
+        ((5, 20), (3, 3), (1, 1), Some((4, 1))),
+        ((10, 20), (3, 3), (1, 1), Some((15, 1))),
+        ((10, 19), (3, 3), (1, 1), None),
+    ],
+    ..STANDING
+};
+
+#[test]
+fn silences_have_their_ends_and_nothing_between() {
+    SILENT_SLOPE.holds(SILENCES);
+    SILENT_STANDING.holds(SILENCES);
+}
+
+/// At an end of a silence the denominator is 1, also where both coordinates came a long way to it.
+#[test]
+fn an_end_of_a_silence_is_told_in_whole_seconds() {
+    let mut fixes = SLOPES
+        .fixes
+        .iter()
+        .copied()
+        .map(Fix::from)
+        .collect::<Vec<_>>();
+    fixes[1].silence = 1;
+    for (end, edges) in [(7, ((7, 7), (-21, -21))), (14, ((14, 14), (0, 0)))] {
+        let question = Question {
+            window: Window {
+                start: 101,
+                end: 114,
+            },
+            area: Area::new(edges.0, edges.1),
+        };
+        let answer = crosses(&record(SILENCES, fixes.clone()), &question, "an end");
+        let told = numbers(answer);
+        assert_eq!(told, [0, 1, end * told[3], told[3]]);
+        // the first end may also be told as the end of the leg before it
+        assert!(end == 7 || told[3] == 1, "{told:?}");
+    }
 }
 
 /// A numerator that needs more than 32 bits, as it is: 65,535 · 319,999.
@@ -410,6 +499,16 @@ fn the_longest_trails_are_answered_as_the_plain_version_does() {
     }
 }
 
+/// The record of three fixes with these bytes after the first two; if both are 0, in centimetres.
+fn with_silences(mut fixes: [Fix; 3], silent: [u8; 2]) -> Vec<u8> {
+    (fixes[0].silence, fixes[1].silence) = (silent[0], silent[1]);
+    let kind = match silent {
+        [0, 0] => CENTIMETRES,
+        _ => SILENCES,
+    };
+    record(kind, fixes)
+}
+
 /// All boxes of a small grid, and all windows, on small trails: every way to touch is among them.
 #[test]
 fn every_small_box_and_window() {
@@ -419,7 +518,9 @@ fn every_small_box_and_window() {
     for _ in 0..settings.cases / 200 {
         let mut coordinate = || random.between(-2, 2) as i32;
         let mut small = |t| (t, coordinate(), coordinate());
-        let bytes = record(CENTIMETRES, [small(0), small(1), small(3)].map(Fix::from));
+        let small = [small(0), small(1), small(3)].map(Fix::from);
+        let silent = [0, 1].map(|_| random.between(0, 1) as u8);
+        let bytes = with_silences(small, silent);
         for x in ranges(-2, 2) {
             for y in ranges(-2, 2) {
                 for (start, end) in ranges(0, 3) {
@@ -442,5 +543,5 @@ fn each_refusal_is_given_in_order() {
     refused_in_order(&faults, &mut tally, |record, question, name| {
         crosses(record, question, name).refusal
     });
-    tally.expect("crossing", &[1, 2, 3, 4, 5, 6, 7, 8, 9, 13, 14]);
+    tally.expect("crossing", &[1, 2, 3, 4, 5, 6, 7, 8, 9, 20, 13, 14]);
 }

@@ -3,7 +3,7 @@
 
 use trails_tests::cases::{Cases, Draft, Random, Settings};
 use trails_tests::interface::{self, LONGEST_TEXT};
-use trails_tests::plain::kinds::{KINDS, MILLIMETRES};
+use trails_tests::plain::kinds::{KINDS, MILLIMETRES, SILENCES};
 use trails_tests::plain::{self, Fix, Trail, LONGEST, MOST_FIXES};
 use trails_tests::programs::{printed, proved};
 
@@ -21,7 +21,7 @@ fn lists_like_plain(input: &[u8], piece: usize, what: &str) {
 }
 
 /// Inputs with their text, both by hand.
-const STORED: [(&str, &str); 23] = [
+const STORED: [(&str, &str); 28] = [
     (
         "12 00 00 00 01 00 FF FF 01 00 E8 03 00 00 FF FF 02 00",
         "trail 1 never\nfix 1000 -1 2\nend\n",
@@ -40,7 +40,7 @@ const STORED: [(&str, &str); 23] = [
     ),
     ("", "refused 1\n"),
     ("12 00 00 00 01 00 FF FF 01", "refused 1\n"),
-    ("12 00 00 00 03 00 FF FF 01 00", "refused 2\n"),
+    ("12 00 00 00 04 00 FF FF 01 00", "refused 2\n"),
     ("12 00 00 00 01 02 FF FF 01 00", "refused 2\n"),
     ("0A 00 00 00 01 00 FF FF 00 00", "refused 3\n"),
     ("12 80 00 00 01 00 FF FF 01 10", "refused 3\n"),
@@ -88,6 +88,24 @@ const STORED: [(&str, &str); 23] = [
         "16 00 00 00 02 00 FF FF 01 00 E8 03 00 00 FF FF FF FF 01 71 02 00",
         "refused 7\n",
     ),
+    // with silences: one, none, and what each of checks 4, 5 and 20 turns away
+    (
+        "1C 00 00 00 03 00 19 00 02 00 E8 03 00 00 FF FF 02 00 01 E9 03 00 00 80 3E 80 C1 00 01",
+        "trail 2 25\nfix 1000 -1 2 silence\nfix 1001 16000 -16000\nend\n",
+    ),
+    (
+        "13 00 00 00 03 00 FF FF 01 00 E8 03 00 00 FF FF 02 00 00",
+        "trail 1 never\nfix 1000 -1 2\nend\n",
+    ),
+    ("12 00 00 00 03 00 FF FF 01 00", "refused 4\n"),
+    (
+        "13 00 00 00 03 00 FF FF 01 00 E8 03 00 00 FF FF 02 00",
+        "refused 5\n",
+    ),
+    (
+        "13 00 00 00 03 00 FF FF 01 00 E8 03 00 00 FF FF 02 00 01",
+        "refused 20\n",
+    ),
 ];
 
 fn bytes(hex: &str) -> Vec<u8> {
@@ -129,23 +147,25 @@ fn long_inputs_are_read_to_the_last_byte_of_the_longest_record_and_no_further() 
 
 #[test]
 fn the_longest_text_is_printed_whole() {
-    let place = |t| Fix {
-        t,
-        x: -160_000,
-        y: -160_000,
-    };
-    let first = u32::MAX - (MOST_FIXES as u32 - 1);
-    let trail = Trail {
-        kind: MILLIMETRES,
-        mark: 60_000,
-        fixes: (first..=u32::MAX).map(place).collect(),
-    };
-    let input = trail.bytes();
-    assert_eq!(input.len(), 49_162);
-    // two lines of 17 and 4 bytes, and 31 bytes a fix, each number as long as it can be
-    assert_eq!(plain::listing(&input).len(), 17 + 31 * MOST_FIXES + 4);
-    assert_eq!(plain::listing(&input).len(), LONGEST_TEXT);
-    lists_like_plain(&input, LONGEST, "the longest text");
+    // each number as long as it can be; with silences a line is longer than one in millimetres, but for the last
+    for (kind, mark, length, bytes) in [
+        (MILLIMETRES, 60_000, 49_162, 17 + 31 * MOST_FIXES + 4),
+        (SILENCES, 32_000, 36_874, 17 + 37 * MOST_FIXES - 8 + 4),
+    ] {
+        let far = -kind.limit;
+        let place = |t: u32| Fix {
+            silence: u8::from(kind.silences && t < u32::MAX),
+            ..Fix::from((t, far, far))
+        };
+        let first = u32::MAX - (MOST_FIXES as u32 - 1);
+        let fixes = (first..=u32::MAX).map(place).collect();
+        let input = Trail { kind, mark, fixes }.bytes();
+        assert_eq!(input.len(), length);
+        assert_eq!(plain::listing(&input).len(), bytes);
+        // the room is for lines of a kind that has the longest of all
+        assert!(bytes < LONGEST_TEXT && LONGEST_TEXT == 17 + 39 * MOST_FIXES + 4);
+        lists_like_plain(&input, LONGEST, "the longest text");
+    }
 }
 
 #[test]

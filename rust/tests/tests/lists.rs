@@ -122,7 +122,7 @@ fn a_list_as_one_call_tells_what_became_of_it() {
         tally.count(case.kind(), told.refusal);
         most = most.max(told.turned_away);
     }
-    tally.expect("list", &[1, 2, 3, 4, 5, 6, 7, 8, 9]);
+    tally.expect("list", &[1, 2, 3, 4, 5, 6, 7, 8, 9, 20]);
     println!("list: up to {most} calls turned away");
     assert!(most > 1);
 }

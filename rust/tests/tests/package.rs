@@ -1,7 +1,9 @@
-//! Every function of the package `trails` beside the plain version of document 01, on the cases that the interface is tried on.
+//! Every function of the package `trails` beside the plain version of the documents, on the cases that the interface is
+//! tried on.
 #![forbid(unsafe_code)]
 
-use trails::{Aging, Area, Fix, Fixes, InUnit, MillimetreFix, Moment, Refusal, Unit, Window};
+use trails::{Aging, AnyFix, Area, Fix, Fixes, MillimetreFix, OfKind, SilenceFix};
+use trails::{Kind as Offered, Moment, Refusal, Unit, Window};
 use trails_tests::cases::{Case, Cases, Random, Settings};
 use trails_tests::plain::kinds::{Kind, CENTIMETRES, KINDS, MILLIMETRES};
 use trails_tests::plain::{self, crossing, moment, thinning};
@@ -13,31 +15,43 @@ fn cases() -> Vec<Case> {
     })
 }
 
-fn unit(kind: Kind) -> Unit {
+fn offered(kind: Kind) -> Offered {
     match kind {
-        CENTIMETRES => Unit::Centimetres,
-        _ => Unit::Millimetres,
+        CENTIMETRES => Offered::Centimetres,
+        MILLIMETRES => Offered::Millimetres,
+        _ => Offered::Silences,
     }
 }
 
-/// What the documents say of each kind, and what the package has for its unit.
+/// What the documents say of each kind, and what the package has for it and its unit.
 #[test]
-fn units_have_their_kinds_numbers() {
+fn kinds_have_their_numbers() {
     for kind in KINDS {
-        let limits = unit(kind).limits();
-        assert_eq!(limits.kind, kind.code);
-        assert_eq!(limits.fix_bytes, kind.fix_bytes());
+        let of = offered(kind);
+        assert_eq!(of.code(), kind.code);
+        assert_eq!(of.fix_bytes(), kind.fix_bytes());
+        assert_eq!(of.has_silences(), kind.silences);
+        let limits = of.unit().limits();
         assert_eq!(limits.place, kind.limit);
         assert_eq!(limits.tolerance, kind.top);
         assert_eq!(limits.per_centimetre, kind.times);
-        assert_eq!(Unit::of_kind(kind.code), Some(unit(kind)));
-        assert_eq!(unit(kind).to_string(), kind.unit);
+        assert_eq!(Offered::of_code(kind.code), Some(of));
+        assert_eq!(of.unit().to_string(), kind.unit);
     }
     assert_eq!(trails::LONGEST, plain::LONGEST);
 }
 
 fn number<T>(answer: Result<T, Refusal>) -> Result<T, u8> {
-    answer.map_err(|refusal| u8::try_from(refusal.number()).expect("at most 15"))
+    answer.map_err(|refusal| u8::try_from(refusal.number()).expect("at most 21"))
+}
+
+fn any(fix: &plain::Fix) -> AnyFix {
+    AnyFix {
+        t: fix.t,
+        x: fix.x,
+        y: fix.y,
+        silence: fix.silence == 1,
+    }
 }
 
 #[test]
@@ -45,14 +59,14 @@ fn records_are_read_and_listed() {
     for case in cases() {
         let expected = plain::read(&case.bytes).map(|trail| {
             let mark = Some(trail.mark).filter(|mark| *mark != plain::NEVER);
-            let numbers = trail.fixes.iter().map(|fix| (fix.t, fix.x, fix.y));
-            (unit(trail.kind), mark, numbers.collect::<Vec<_>>())
+            let fixes = trail.fixes.iter().map(any);
+            (offered(trail.kind), mark, fixes.collect::<Vec<_>>())
         });
         let read = trails::check(&case.bytes).and_then(|head| {
             let fixes = trails::fixes(&case.bytes)?;
-            let facts = (fixes.unit(), fixes.count());
-            assert_eq!(facts, (head.unit, head.count as usize), "{}", case.name);
-            Ok((head.unit, head.mark, fixes.numbers()))
+            let facts = (fixes.kind(), fixes.count());
+            assert_eq!(facts, (head.kind, head.count as usize), "{}", case.name);
+            Ok((head.kind, head.mark, fixes.any()))
         });
         assert_eq!(number(read), expected, "{}", case.name);
         let text = match number(trails::list(&case.bytes)) {
@@ -75,19 +89,28 @@ fn a_refused_count_is_told() {
 }
 
 #[test]
-fn a_refused_kind_has_no_unit() {
+fn a_refused_kind_is_told_if_there_is_one() {
     let bytes = trails::write(&[MillimetreFix { t: 7, x: -1, y: 2 }]).expect("a record");
-    for (kind, unit) in [
+    for (code, kind) in [
         (0, None),
-        (2, Some(Unit::Millimetres)),
-        (3, None),
+        (1, Some(Offered::Centimetres)),
+        (2, Some(Offered::Millimetres)),
+        (3, Some(Offered::Silences)),
+        (4, None),
         (258, None),
     ] {
         let mut bytes = bytes.clone();
-        bytes[4..6].copy_from_slice(&u16::to_le_bytes(kind));
-        assert_eq!(trails::claimed_unit(&bytes), unit);
-        assert_eq!(trails::claimed_unit(&bytes[..9]), None);
-        assert_eq!(trails::check(&bytes).map(|head| head.unit).ok(), unit);
+        bytes[4..6].copy_from_slice(&u16::to_le_bytes(code));
+        assert_eq!(trails::claimed_kind(&bytes), kind);
+        assert_eq!(trails::claimed_kind(&bytes[..9]), None);
+        // of the others its length is wrong
+        let checked = trails::check(&bytes).map(|head| (head.kind, head.unit()));
+        let expected = match (code, kind) {
+            (2, _) => Ok((Offered::Millimetres, Unit::Millimetres)),
+            (_, Some(_)) => Err(Refusal::BadLength),
+            _ => Err(Refusal::OtherKind),
+        };
+        assert_eq!(checked, expected);
     }
 }
 
@@ -103,31 +126,35 @@ fn fixes_are_written_and_read_again() {
                 let read = Fixes::Millimetres(list.clone());
                 are_written_and_read_again(&list, read, &case.name);
             }
+            Ok(Fixes::Silences(list)) => {
+                let read = Fixes::Silences(list.clone());
+                are_written_and_read_again(&list, read, &case.name);
+            }
             Err(_) => {}
         }
     }
 }
 
-fn are_written_and_read_again<F: InUnit>(list: &[F], fixes: Fixes, name: &str) {
+fn are_written_and_read_again<F: OfKind>(list: &[F], fixes: Fixes, name: &str) {
     let record = trails::write(list).expect("accepted fixes are written");
     assert_eq!(trails::fixes(&record), Ok(fixes), "{name}");
-    let head = trails::check(&record).map(|head| (head.unit, head.length()));
-    assert_eq!(head, Ok((F::UNIT, record.len())), "{name}");
+    let head = trails::check(&record).map(|head| (head.kind, head.length()));
+    assert_eq!(head, Ok((F::KIND, record.len())), "{name}");
     let mut short = vec![7; record.len() - 1];
     let refused = trails::write_into(list, &mut short);
     assert_eq!(refused, Err(Refusal::ShortOutput), "{name}");
     assert!(short.iter().all(|byte| *byte == 7), "{name}");
 }
 
-/// Each limit of a unit met, and passed by one: its lengths are 0, one at the limit, and one beyond it.
-fn are_turned_away<F: InUnit>(longest: usize, [none, most, beyond]: [F::Length; 3]) {
+/// Each limit of a kind met, and passed by one: its lengths are 0, one at the limit, and one beyond it.
+fn are_turned_away<F: OfKind>(longest: usize, [none, most, beyond]: [F::Length; 3]) {
     let fix = |t, x| F::new(t, x, none);
     let rising = |n: u32| (0..n).map(|t| fix(t, none)).collect::<Vec<_>>();
     let written = |list: &[F]| trails::write(list).map(|record| record.len());
     assert_eq!(written(&[]), Err(Refusal::BadCount));
     assert_eq!(written(&rising(4_097)), Err(Refusal::BadCount));
     assert_eq!(written(&rising(4_096)), Ok(longest));
-    let length = F::UNIT.limits().fix_bytes + 10;
+    let length = F::KIND.fix_bytes() + 10;
     assert_eq!(written(&[fix(0, most)]), Ok(length));
     assert_eq!(written(&[fix(0, beyond)]), Err(Refusal::Misplaced));
     let equal = [fix(1, none), fix(1, none)];
@@ -140,6 +167,38 @@ fn are_turned_away<F: InUnit>(longest: usize, [none, most, beyond]: [F::Length; 
 fn lists_that_are_no_trail_are_turned_away() {
     are_turned_away::<Fix>(32_778, [0, -16_000, 16_001]);
     are_turned_away::<MillimetreFix>(49_162, [0, -160_000, 160_001]);
+    are_turned_away::<SilenceFix>(36_874, [0, -16_000, 16_001]);
+}
+
+/// A silence byte that is neither 0 nor 1 can't be put, and a silence after the last fix is turned away.
+#[test]
+fn the_last_fix_is_followed_by_no_silence() {
+    let fix = |t, silence| SilenceFix {
+        silence,
+        ..SilenceFix::new(t, 0, 0)
+    };
+    let written = |list: &[SilenceFix]| trails::write(list).map(|record| record.len());
+    assert_eq!(written(&[fix(5, true), fix(9, false)]), Ok(28));
+    assert_eq!(
+        written(&[fix(5, false), fix(9, true)]),
+        Err(Refusal::BadSilence)
+    );
+    assert_eq!(written(&[fix(5, true)]), Err(Refusal::BadSilence));
+    // a span of 65,536 seconds comes first
+    assert_eq!(
+        written(&[fix(0, true), fix(65_536, true)]),
+        Err(Refusal::LongSpan)
+    );
+    let record = trails::write(&[fix(5, true), fix(9, false)]).expect("a record");
+    let at = |second, thousandths| {
+        let moment = Moment {
+            second,
+            thousandths,
+        };
+        trails::place(&record, moment).map(|place| place.denominator)
+    };
+    assert_eq!([at(5, 0), at(9, 0)], [Ok(4_000); 2]);
+    assert_eq!([at(5, 1), at(8, 999)], [Err(Refusal::InSilence); 2]);
 }
 
 fn plainly(aging: Aging, buffer: &mut [u8]) -> Result<u32, u8> {
@@ -172,7 +231,7 @@ fn records_are_aged() {
 #[test]
 fn agings_apply_what_the_table_says() {
     let fixes = vec![plain::Fix::from((0, 0, 0))];
-    for kind in [CENTIMETRES, MILLIMETRES] {
+    for kind in KINDS {
         let record = plain::Trail::never_thinned(kind, fixes.clone()).bytes();
         let tolerances = (0..=u16::MAX).map(Aging::Tolerance);
         for aging in tolerances.chain((0..=u16::MAX).map(Aging::Days)) {
@@ -180,7 +239,8 @@ fn agings_apply_what_the_table_says() {
             // a refused aging leaves the record marked never, as one that applies nothing does
             let _ = aging.apply(&mut aged);
             let mark = trails::check(&aged).expect("a record").mark;
-            assert_eq!(aging.applies(unit(kind)), mark, "{kind}, {aging:?}");
+            let applies = aging.applies(offered(kind).unit());
+            assert_eq!(applies, mark, "{kind}, {aging:?}");
         }
     }
 }

@@ -1,9 +1,10 @@
-//! The place question: the fraction as document 01 has it, the rounded place beside it, mirrored trails, and each refusal.
+//! The place question: the fraction as document 01 has it, the rounded place beside it, mirrored trails, moments inside
+//! silences and at their ends, and each refusal.
 #![forbid(unsafe_code)]
 
 use trails_tests::cases::{buffer, kind_of, Random, Settings, Tally};
 use trails_tests::interface::Place;
-use trails_tests::plain::kinds::{Kind, CENTIMETRES, KINDS, MILLIMETRES};
+use trails_tests::plain::kinds::{Kind, CENTIMETRES, KINDS, MILLIMETRES, SILENCES};
 use trails_tests::plain::{Fix, Trail, MOST_FIXES};
 use trails_tests::questions::{asked_of_every_shape, place, refused_in_order, Moment};
 use trails_tests::shapes::{every_kind_and_shape, trail};
@@ -101,7 +102,7 @@ impl Row {
     }
 }
 
-/// What is a place in centimetres is one in millimetres too.
+/// What is a place in centimetres is one in millimetres too, and one where no silence is.
 #[test]
 fn trails_worked_by_hand() {
     for row in &ROWS {
@@ -183,6 +184,57 @@ fn every_fix_of_the_longest_trails_is_at_its_own_place() {
     }
 }
 
+// A silence from second 20 to 30, another right after it to 31, and a stretch that ends at 35.
+const SILENT: [(u32, i32, i32, u8); 5] = [
+    (10, 0, 0, 0),
+    (20, 10, 100, 1),
+    (30, 70, 900, 1),
+    (31, 50, 500, 0),
+    (35, 58, 500, 0),
+];
+
+/// A moment: second and thousandths. A fraction: x, y and their denominator, and where it is refused only 21.
+type Told = ((u32, u16), Result<(i64, i64, u32), u32>);
+
+const TOLD: [Told; 13] = [
+    ((10, 0), Ok((0, 0, 10_000))),
+    ((19, 999), Ok((99_990, 999_900, 10_000))),
+    // an end of a silence has its place, on the leg that ends there
+    ((20, 0), Ok((100_000, 1_000_000, 10_000))),
+    ((20, 1), Err(21)),
+    ((25, 0), Err(21)),
+    ((29, 999), Err(21)),
+    // which is then the silent one
+    ((30, 0), Ok((700_000, 9_000_000, 10_000))),
+    ((30, 1), Err(21)),
+    ((30, 999), Err(21)),
+    ((31, 0), Ok((50_000, 500_000, 1_000))),
+    ((31, 1), Ok((200_008, 2_000_000, 4_000))),
+    ((35, 0), Ok((232_000, 2_000_000, 4_000))),
+    ((35, 1), Err(12)),
+];
+
+/// By hand.
+#[test]
+fn no_place_is_told_inside_a_silence() {
+    let fixes = SILENT.map(Fix::from).into();
+    let bytes = buffer(&Trail::never_thinned(SILENCES, fixes));
+    for ((second, thousandths), told) in TOLD {
+        let moment = Moment {
+            second,
+            thousandths,
+        };
+        let answer = place(&bytes, moment, "silences");
+        let fraction = (answer.x, answer.y, answer.denominator);
+        let (refusal, expected) = told.map_or_else(|number| (number, (0, 0, 0)), |all| (0, all));
+        assert_eq!(
+            (answer.refusal, fraction),
+            (refusal, expected),
+            "{moment:?}"
+        );
+    }
+}
+
 /// Every half second of a short leg, where each place between two whole ones is a half somewhere.
 #[test]
 fn halves_go_away_from_zero() {
@@ -213,12 +265,13 @@ const MIRRORS: [Mirror; 3] = [(true, false), (false, true), (true, true)];
 /// opposite, and is turned away: it stays.
 fn mirrored(record: &[u8], (in_x, in_y): Mirror) -> Vec<u8> {
     let mut image = record.to_vec();
-    let Kind { width, .. } = kind_of(record, CENTIMETRES);
+    let kind = kind_of(record, CENTIMETRES);
+    let width = kind.width;
     let count = record
         .get(8..10)
         .map_or(0, |n| u16::from_le_bytes([n[0], n[1]]));
     let rest = image.get_mut(10..).unwrap_or_default();
-    for fix in rest.chunks_exact_mut(4 + 2 * width).take(count.into()) {
+    for fix in rest.chunks_exact_mut(kind.fix_bytes()).take(count.into()) {
         for (at, is_mirrored) in [(4, in_x), (4 + width, in_y)] {
             if is_mirrored {
                 turn_over(&mut fix[at..at + width]);
@@ -264,7 +317,7 @@ fn a_mirrored_trail_has_the_mirrored_place() {
 #[test]
 fn each_refusal_is_given_in_order() {
     let mut tally = Tally::default();
-    let faults: [&[u8]; 4] = [&[], &[12], &[11], &[12, 11]];
+    let faults: [&[u8]; 6] = [&[], &[12], &[11], &[12, 11], &[21], &[21, 11]];
     refused_in_order(&faults, &mut tally, |record, &moment: &Moment, name| {
         let answer = place(record, moment, name);
         let refusal = answer.refusal;
@@ -278,5 +331,5 @@ fn each_refusal_is_given_in_order() {
         is_mirrored(&answer, record, moment, name);
         refusal
     });
-    tally.expect("place", &[1, 2, 3, 4, 5, 6, 7, 8, 9, 11, 12]);
+    tally.expect("place", &[1, 2, 3, 4, 5, 6, 7, 8, 9, 20, 11, 12, 21]);
 }

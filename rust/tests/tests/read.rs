@@ -8,7 +8,7 @@ use trails_tests::expected;
 use trails_tests::interface::{read, read_all, Step};
 use trails_tests::plain;
 
-const RECORDS_OWN: [u32; 9] = [1, 2, 3, 4, 5, 6, 7, 8, 9];
+const RECORDS_OWN: [u32; 10] = [1, 2, 3, 4, 5, 6, 7, 8, 9, 20];
 
 /// Holds a refusal to what is known of the case.
 fn is_known(refusal: u32, case: &Case) {
@@ -46,17 +46,17 @@ fn each_position_yields_what_the_plain_version_does() {
     tally.expect("read", &RECORDS_OWN);
 }
 
-/// Lengths of the three columns: all the same, at and about the number of fixes, and each another.
-fn lengths(count: usize) -> Vec<[usize; 3]> {
+/// Lengths of the four columns: all the same, at and about the number of fixes, and each another.
+fn lengths(count: usize) -> Vec<[usize; 4]> {
     let same = [0, 1, count - 1, count, count + 1, count + 70];
     let others = [
-        [0, count, count + 1],
-        [count, count + 1, 0],
-        [count + 1, 0, count],
-        [count - 1, 0, 1],
-        [count + 3, count - 1, count],
+        [0, count, count + 1, count - 1],
+        [count, count + 1, 0, 1],
+        [count + 1, 0, count, count],
+        [count - 1, 0, 1, count + 2],
+        [count + 3, count - 1, count, 0],
     ];
-    same.map(|length| [length; 3])
+    same.map(|length| [length; 4])
         .into_iter()
         .chain(others)
         .collect()
@@ -101,6 +101,7 @@ fn a_record_in_millimetres_is_read() {
         t,
         x,
         y,
+        silence: 0,
     };
     let fixes = [fix(0, 65_536, -65_536), fix(65_535, -160_000, 160_000)];
     assert_eq!([read(&record, 0), read(&record, 1)], fixes);
@@ -109,10 +110,41 @@ fn a_record_in_millimetres_is_read() {
         t: vec![7; 2],
         x: vec![7; 1],
         y: vec![7; 3],
+        silence: vec![7; 2],
     };
     let answer = read_all(&record, &mut columns);
     assert_eq!((answer.refusal, answer.value), (0, 2));
-    let Columns { t, x, y } = columns;
+    let Columns { t, x, y, silence } = columns;
     assert_eq!((t, x), (vec![0, 65_535], vec![65_536]));
     assert_eq!(y, [-65_536, 160_000, 7]);
+    assert_eq!(silence, [0, 0]);
+}
+
+/// By hand: three fixes with a silence after the second.
+#[test]
+fn a_record_with_a_silence_is_read() {
+    let record = [
+        &[37, 0, 0, 0, 3, 0, 0xFF, 0xFF, 3, 0][..],
+        &[7, 0, 0, 0, 0x80, 0x3E, 1, 0, 0],
+        &[8, 0, 0, 0, 2, 0, 0x80, 0xC1, 1],
+        &[9, 1, 0, 0, 3, 0, 4, 0, 0],
+    ]
+    .concat();
+    let silences = [0, 1, 2].map(|position| {
+        let step = read(&record, position);
+        assert_eq!((step.refusal, step.found, step.kind), (0, 1, 3));
+        (step.t, step.x, step.y, step.silence)
+    });
+    let fixes = [(7, 16_000, 1, 0), (8, 2, -16_000, 1), (265, 3, 4, 0)];
+    assert_eq!(silences, fixes);
+    assert_eq!(read(&record, 3), Step::default());
+    let mut columns = Columns {
+        t: vec![],
+        x: vec![],
+        y: vec![5; 1],
+        silence: vec![5; 4],
+    };
+    let answer = read_all(&record, &mut columns);
+    assert_eq!((answer.refusal, answer.value), (0, 3));
+    assert_eq!((columns.y, columns.silence), (vec![1], vec![0, 1, 0, 5]));
 }

@@ -1,11 +1,11 @@
 //! Trails with results by hand: document 01's a to j, in millimetres too, the counterexamples of source document 003,
-//! and trails in millimetres whose sums need two words.
+//! trails in millimetres whose sums need two words, and trails with silences.
 #![forbid(unsafe_code)]
 
 use trails_tests::agings::{stays_near, Buffer};
 use trails_tests::cases::Random;
 use trails_tests::interface::Answer;
-use trails_tests::plain::kinds::{Kind, CENTIMETRES, MILLIMETRES};
+use trails_tests::plain::kinds::{Kind, CENTIMETRES, MILLIMETRES, SILENCES};
 use trails_tests::plain::lists::Call;
 use trails_tests::plain::{Fix, Trail};
 use trails_tests::shapes::ten_times;
@@ -41,11 +41,20 @@ impl Row {
         self.fixes.iter().copied().map(Fix::from).collect()
     }
 
-    /// In centimetres, and ten times as far, at ten times the tolerances, in millimetres.
+    /// In centimetres, also of the kind that could have silences, and ten times as far, at ten times the tolerances, in
+    /// millimetres.
     fn holds(&self) {
         self.holds_of(CENTIMETRES, self.fixes(), self.tolerances);
+        self.holds_of(SILENCES, self.fixes(), self.tolerances);
         let further: Vec<u16> = self.tolerances.iter().map(|e| 10 * e).collect();
         self.holds_of(MILLIMETRES, ten_times(&self.fixes()), &further);
+    }
+
+    /// With a silence after each of these fixes.
+    fn holds_with_silences(&self, silent: &[usize]) {
+        let mut fixes = self.fixes();
+        silent.iter().for_each(|&k| fixes[k].silence = 1);
+        self.holds_of(SILENCES, fixes, self.tolerances);
     }
 
     fn holds_in_millimetres(&self) {
@@ -161,6 +170,60 @@ const IN_MILLIMETRES: [Row; 12] = [
 #[test]
 fn trails_in_millimetres() {
     IN_MILLIMETRES.iter().for_each(Row::holds_in_millimetres);
+}
+
+// Document 01's h, then b, then c, with a silence after each of the first two: what stays of each, and the counts, are
+// as they are of each alone.
+const H_B_C: &[(u32, i32, i32)] = &[
+    (0, 0, 0),
+    (10, 20, 0),
+    (20, 20, 0),
+    (30, 0, 0),
+    (100, 0, 0),
+    (110, 100, 0),
+    (120, 200, 0),
+    (121, 0, 0),
+    (131, 30, 40),
+    (141, 0, 0),
+];
+
+// After which fixes of a trail there is a silence.
+const SILENT: [(&[usize], Row); 9] = [
+    (
+        &[3, 6],
+        row("h, b, c", H_B_C, &[12], &[0, 1, 3, 4, 6, 7, 8, 9], &[5]),
+    ),
+    (
+        &[3, 6],
+        row("h, b, c", H_B_C, &[25, 12], &[0, 3, 4, 6, 7, 8, 9], &[4, 1]),
+    ),
+    (
+        &[3, 6],
+        row("h, b, c", H_B_C, &[50], &[0, 3, 4, 6, 7, 9], &[4]),
+    ),
+    // a silence inside h: both its ends stay at any tolerance, and nothing is measured
+    (&[1], row("h", H, &[32_000], &[0, 1, 2, 3], &[0])),
+    // at the start the rest is a span of three, 10 from its chord
+    (&[0], row("h", H, &[10], &[0, 1, 3], &[1])),
+    (&[0], row("h", H, &[9], &[0, 1, 2, 3], &[1])),
+    // before the last fix, 10 from its chord too
+    (&[2], row("h", H, &[10], &[0, 2, 3], &[1])),
+    // after every fix, and of two fixes
+    (
+        &[0, 1, 2],
+        row("h", H, &[32_000, 0], &[0, 1, 2, 3], &[0, 0]),
+    ),
+    (
+        &[0],
+        row("two", &[(5, 1, 1), (6, 2, 2)], &[400], &[0, 1], &[0]),
+    ),
+];
+
+#[test]
+fn trails_with_silences() {
+    for (silent, row) in &SILENT {
+        row.holds_with_silences(silent);
+    }
 }
 
 // Document 003 has miles and minutes, and points (x, y, t). Here its unit of length is 100 cm, and its unit of time a

@@ -1,11 +1,11 @@
-//! The writers of both kinds: the answer, the record, the bytes after it, and an output that no refusal touches.
+//! The writers of all kinds: the answer, the record, the bytes after it, and an output that no refusal touches.
 #![forbid(unsafe_code)]
 
-use trails_tests::cases::{fixes, in_columns, spoil, Random, Settings, Tally};
+use trails_tests::cases::{faults_of_fixes, fixes, in_columns, spoil, Random, Settings, Tally};
 use trails_tests::columns::Columns;
 use trails_tests::expected;
 use trails_tests::interface::{self, Answer};
-use trails_tests::plain::kinds::{Kind, KINDS, MILLIMETRES};
+use trails_tests::plain::kinds::{Kind, KINDS, MILLIMETRES, SILENCES};
 use trails_tests::plain::{Fix, MOST_FIXES};
 
 /// A list of fixes as columns, and an output with something in it.
@@ -32,10 +32,15 @@ fn reads_back(kind: Kind, list: &[Fix], output: &[u8], name: &str) {
     let facts = (head.refusal, head.count as usize, head.mark);
     assert_eq!(facts, (0, list.len(), 65_535), "{name}");
     assert_eq!(head.kind, kind.code.into(), "{name}");
-    let before = Fix { t: 0, x: 0, y: 0 };
+    let before = Fix::from((0, 0, 0, 9));
     let mut columns = Columns::of(&vec![before; list.len()]);
     let answer = interface::read_all(output, &mut columns);
-    let read = (answer.refusal, answer.value as usize, columns.fixes());
+    // with silences, which of the other kinds are all 0
+    let read = (
+        answer.refusal,
+        answer.value as usize,
+        columns.fixes(SILENCES),
+    );
     assert_eq!(read, (0, list.len(), list.to_vec()), "{name}");
 }
 
@@ -136,23 +141,33 @@ impl Run {
 #[test]
 fn lists_are_written_or_refused_as_the_plain_version_does() {
     let mut run = Run::new();
-    let faults: [&[u8]; 7] = [&[], &[7], &[8], &[9], &[8, 7], &[9, 7], &[9, 8]];
     for kind in KINDS {
         run.kind = kind;
         run.sizes();
         run.counts();
+        let faults = none_one_or_two(&faults_of_fixes(kind));
         for n in [2, 3, 20, MOST_FIXES] {
-            for some in faults {
+            for some in &faults {
                 run.faults(n, some);
             }
         }
         for _ in 0..run.settings.cases / 2 {
             let n = run.random.between(2, 40) as usize;
-            let some = run.random.pick(&faults);
-            run.faults(n, some);
+            let some = run.random.between(0, faults.len() as i64 - 1);
+            run.faults(n, &faults[some as usize]);
         }
     }
-    run.tally.expect("write", &[3, 7, 8, 9, 15]);
+    run.tally.expect("write", &[3, 7, 8, 9, 20, 15]);
+}
+
+/// No fault, each of these alone, and every two of them, the later one first.
+fn none_one_or_two(all: &[u8]) -> Vec<Vec<u8>> {
+    let mut sets = vec![Vec::new()];
+    for (k, &first) in all.iter().enumerate() {
+        sets.push(vec![first]);
+        sets.extend(all[k + 1..].iter().map(|&second| vec![second, first]));
+    }
+    sets
 }
 
 #[test]
@@ -165,25 +180,32 @@ fn columns_of_other_lengths_are_as_long_as_the_shortest() {
 fn lists_end_with_the_shortest(kind: Kind) {
     let mut random = Random::new(Settings::get().seed);
     let all = fixes(kind, &mut random, 5);
-    for (a, b, c) in [
-        (5, 4, 3),
-        (3, 5, 4),
-        (4, 3, 5),
-        (5, 5, 0),
-        (0, 5, 5),
-        (5, 0, 5),
+    for lengths in [
+        [5, 4, 3, 5],
+        [3, 5, 4, 5],
+        [4, 3, 5, 5],
+        [5, 5, 0, 5],
+        [0, 5, 5, 5],
+        [5, 0, 5, 5],
+        [5, 4, 5, 3],
+        [5, 5, 5, 1],
+        [5, 5, 5, 0],
     ] {
-        let Columns { t, x, y } = Columns::of(&all);
+        let Columns { t, x, y, silence } = Columns::of(&all);
+        let [a, b, c, d] = lengths;
         let columns = Columns {
             t: t[..a].to_vec(),
             x: x[..b].to_vec(),
             y: y[..c].to_vec(),
+            silence: silence[..d].to_vec(),
         };
+        let three = a.min(b).min(c);
+        let list = if kind.silences { three.min(d) } else { three };
         let before = random.bytes(80);
         let written = write(kind, &columns, &before);
-        let want = plain_write(kind, &all[..a.min(b).min(c)], &before);
-        assert_eq!(written.answer, want.answer, "{kind}, {a} {b} {c}");
-        assert_eq!(written.output, want.output, "{kind}, {a} {b} {c}");
+        let want = plain_write(kind, &all[..list], &before);
+        assert_eq!(written.answer, want.answer, "{kind}, {lengths:?}");
+        assert_eq!(written.output, want.output, "{kind}, {lengths:?}");
     }
 }
 
@@ -194,6 +216,7 @@ fn a_record_in_millimetres_is_written() {
         t: vec![5, 65_540],
         x: vec![-160_000, 65_536],
         y: vec![160_000, -1],
+        silence: vec![],
     };
     let refused = write(MILLIMETRES, &columns, &[7; 33]);
     assert_eq!((refused.answer.refusal, refused.answer.value), (15, 0));
@@ -211,5 +234,44 @@ fn a_record_in_millimetres_is_written() {
         let mut columns = columns.clone();
         columns.y[1] = far;
         assert_eq!(write(MILLIMETRES, &columns, &[]).answer.refusal, 7);
+    }
+}
+
+/// By hand: two fixes with a silence between them; a silence after the last, and bytes that say neither.
+#[test]
+fn a_record_with_a_silence_is_written() {
+    let columns = Columns {
+        t: vec![5, 65_540],
+        x: vec![-16_000, 2],
+        y: vec![16_000, -1],
+        silence: vec![1, 0],
+    };
+    let refused = write(SILENCES, &columns, &[7; 27]);
+    assert_eq!((refused.answer.refusal, refused.answer.value), (15, 0));
+    assert_eq!(refused.output, [7; 27]);
+    let written = write(SILENCES, &columns, &[7; 29]);
+    assert_eq!((written.answer.refusal, written.answer.value), (0, 28));
+    let record = [
+        &[28, 0, 0, 0, 3, 0, 0xFF, 0xFF, 2, 0][..],
+        &[5, 0, 0, 0, 0x80, 0xC1, 0x80, 0x3E, 1],
+        &[4, 0, 1, 0, 2, 0, 0xFF, 0xFF, 0],
+        &[7],
+    ];
+    assert_eq!(written.output, record.concat());
+    // into no byte at all, so that check 15 is seen to come later; and one second more is check 9's
+    for (last, silence, refusal) in [
+        (65_540, [0, 1], 20),
+        (65_540, [2, 0], 20),
+        (65_540, [0, 255], 20),
+        (65_540, [0, 0], 15),
+        (65_541, [1, 1], 9),
+    ] {
+        let columns = Columns {
+            t: vec![5, last],
+            silence: silence.into(),
+            ..columns.clone()
+        };
+        let answer = write(SILENCES, &columns, &[]).answer;
+        assert_eq!(answer.refusal, refusal, "{last}, {silence:?}");
     }
 }

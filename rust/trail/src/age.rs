@@ -26,7 +26,8 @@ usage: trail age --tolerance E [--json] FILE...
 
 Thins each trail and puts it in its file's place: the new record, and what
 followed the old one. The fixes that were thinned away are gone, and the file
-is shorter by the bytes that were freed. Goes on past a refused file.
+is shorter by the bytes that were freed. Each stretch between silences is
+thinned by itself, so both ends of a silence stay. Goes on past a refused file.
 
 The new file is written beside the old one, flushed, and given its name. Group,
 permissions and access list stay, other attributes don't. The owner stays if
@@ -72,7 +73,7 @@ fn age(name: &OsStr, mut bytes: Vec<u8>, aging: Aging) -> Result<Aged, Failure> 
     let freed = gone.len();
     bytes.drain(gone);
     Ok(Aged {
-        unit: after.unit,
+        unit: after.unit(),
         before: before.count,
         count: after.count,
         mark: after.mark,

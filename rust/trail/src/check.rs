@@ -18,12 +18,13 @@ pub const COMMAND: Command = Command {
 const HELP: &str = "\
 usage: trail check [--json] FILE...
 
-Says of each FILE how many fixes its trail has, from which second to which, in
-which unit its places are, and its mark, or why it is refused. Goes on past a
-refused file.
+Says of each FILE how many fixes its trail has, and if it can have silences how
+many of those, from which second to which, in which unit its places are, and
+its mark, or why it is refused. Goes on past a refused file.
 
   --json   print one line for each file:
-           {\"file\", \"unit\", \"count\", \"first\", \"last\", \"mark\"},
+           {\"file\", \"unit\", \"count\", \"silences\", \"first\", \"last\",
+           \"mark\"}, with null for the silences if the trail can have none,
            {\"file\", \"refused\", \"sentence\"} or {\"file\", \"failed\"}
 ";
 
@@ -44,18 +45,24 @@ fn run(arguments: &Arguments) -> Result<Status, Failure> {
 fn check(name: &OsStr, json: bool) -> Result<(), Failure> {
     let trail = Trail::read(name)?;
     let (count, first, last) = (trail.fixes.len(), trail.first(), trail.last());
+    let silences = trail.silences().count();
     if !json {
-        let (file, mark) = (words::shown(name), words::mark(trail.mark, trail.unit));
+        let (file, mark) = (words::shown(name), words::mark(trail.mark, trail.unit()));
+        let silences = match trail.kind.has_silences() {
+            true => format!(", silences {silences}"),
+            false => String::new(),
+        };
         let times = format!("seconds {first} to {last}");
-        let places = format!("places in {}", trail.unit.symbol());
+        let places = format!("places in {}", trail.unit().symbol());
         return output::print(&format!(
-            "{file}: fixes {count}, {times}, {places}, mark {mark}\n"
+            "{file}: fixes {count}{silences}, {times}, {places}, mark {mark}\n"
         ));
     }
     output::print_json(Json::Object(vec![
         ("file", Json::text(name)),
-        ("unit", Json::unit(trail.unit)),
+        ("unit", Json::unit(trail.unit())),
         ("count", Json::Whole(count as i128)),
+        ("silences", Json::silences(trail.kind, silences)),
         ("first", Json::Whole(first.into())),
         ("last", Json::Whole(last.into())),
         ("mark", Json::mark(trail.mark)),

@@ -26,16 +26,20 @@ in the trail's unit: centimetres, or, and then the answer says so, millimetres.
 A yes comes with the earliest time: the seconds after the first fix as a
 fraction, and the same on the trail's own clock, cut off after the thousandths.
 The fraction isn't reduced; it is the same for the same trail and window at
-another time.
+another time. Of a silence only its two ends count: a window inside one has a
+no.
 
 Then it says what that means of the original, the trail as the cart reported
 it, straight between its fixes: a no of a thinned trail is no proof that the
 cart wasn't in the box, but then it was near an edge. The mark is believed: of
-a record from elsewhere this holds if its mark is right.
+a record from elsewhere this holds if its mark is right. And it says how many
+silences the window has, in which nobody knows where the cart was.
 
   --json   print one line: {\"file\", \"unit\", \"crosses\": true, \"numerator\",
-           \"denominator\", \"first\": the first fix's second, \"mark\", \"means\"}
-           or {\"file\", \"unit\", \"crosses\": false, \"mark\", \"means\"}
+           \"denominator\", \"first\": the first fix's second, \"mark\",
+           \"silences\": how many the window has, null if the trail can have
+           none, \"means\"} or the same with \"crosses\": false and without
+           numerator, denominator and first
 ";
 
 fn run(arguments: &Arguments) -> Result<Status, Failure> {
@@ -47,14 +51,18 @@ fn run(arguments: &Arguments) -> Result<Status, Failure> {
     let trail = Trail::read(name)?;
     let crossing = trails::crosses(&trail.bytes, area, window);
     let crossing = crossing.map_err(|refusal| trail.refused(refusal))?;
-    let means = meaning::of_crossing(&trail, crossing.is_some());
-    let asked = match trail.unit {
+    let silences = trail.silences_in(window);
+    let means = meaning::of_crossing(&trail, crossing.is_some(), silences);
+    let asked = match trail.unit() {
         Unit::Centimetres => "",
         // who has asked in centimetres is to see that the trail isn't
         Unit::Millimetres => ", the box in mm",
     };
     match arguments.has("--json") {
-        true => output::print_json(answer(&trail, crossing, means))?,
+        true => {
+            let silences = Json::silences(trail.kind, silences);
+            output::print_json(answer(&trail, crossing, silences, means))?
+        }
         false => output::print(&format!("{}{asked}; {means}\n", text(&trail, crossing)))?,
     }
     Ok(Status::Done)
@@ -75,10 +83,10 @@ fn text(trail: &Trail, crossing: Option<Crossing>) -> String {
     format!("yes, {fraction}, at {second}.{thousandths:03}")
 }
 
-fn answer(trail: &Trail, crossing: Option<Crossing>, means: String) -> Json {
+fn answer(trail: &Trail, crossing: Option<Crossing>, silences: Json, means: String) -> Json {
     let mut fields = vec![
         ("file", Json::text(&trail.name)),
-        ("unit", Json::unit(trail.unit)),
+        ("unit", Json::unit(trail.unit())),
         ("crosses", Json::Truth(crossing.is_some())),
     ];
     if let Some(crossing) = crossing {
@@ -87,6 +95,7 @@ fn answer(trail: &Trail, crossing: Option<Crossing>, means: String) -> Json {
         fields.push(("first", Json::Whole(trail.first().into())));
     }
     fields.push(("mark", Json::mark(trail.mark)));
+    fields.push(("silences", silences));
     fields.push(("means", Json::text(means)));
     Json::Object(fields)
 }

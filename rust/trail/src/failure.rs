@@ -3,7 +3,7 @@
 use std::ffi::{OsStr, OsString};
 use std::fmt;
 
-use trails::{Refusal, Unit};
+use trails::{Kind, Refusal};
 
 use crate::json::Json;
 use crate::words::shown;
@@ -51,6 +51,8 @@ pub enum Fact {
     Count(usize),
     /// The trail's first second and its last.
     Seconds(u32, u32),
+    /// The seconds at which a silence begins and ends.
+    Silence(u32, u32),
 }
 
 impl Fact {
@@ -67,6 +69,10 @@ impl Fact {
                 ("first", Json::Whole(first.into())),
                 ("last", Json::Whole(last.into())),
             ],
+            Fact::Silence(from, to) => vec![
+                ("from", Json::Whole(from.into())),
+                ("to", Json::Whole(to.into())),
+            ],
         }
     }
 }
@@ -76,16 +82,17 @@ impl fmt::Display for Fact {
         match self {
             Fact::Count(count) => write!(to, "The count is {count}."),
             Fact::Seconds(first, last) => write!(to, "The trail has seconds {first} to {last}."),
+            Fact::Silence(from, end) => write!(to, "The silence is from second {from} to {end}."),
         }
     }
 }
 
-/// What document 01 turns away, by the limits of a unit.
+/// What the documents turn away, by the limits of a kind.
 #[derive(Debug)]
 pub struct Refused {
     pub spot: Spot,
     pub refusal: Refusal,
-    pub unit: Unit,
+    pub kind: Kind,
     pub fact: Option<Fact>,
 }
 
@@ -95,7 +102,7 @@ pub enum Failure {
     Usage(String),
     /// A line of a text isn't what it should be.
     Line(Spot, String),
-    /// Document 01 turns it away.
+    /// The documents turn it away.
     Refused(Refused),
     /// A file couldn't be read or written.
     File(OsString, String),
@@ -117,7 +124,7 @@ impl Failure {
         let failed = |what: &String| vec![("failed", Json::text(what))];
         let (spot, what) = match self {
             Failure::Refused(refused) => {
-                let mut fields = Vec::from(refusal_fields(refused.refusal, refused.unit));
+                let mut fields = Vec::from(refusal_fields(refused.refusal, refused.kind));
                 fields.extend(refused.fact.map(Fact::fields).unwrap_or_default());
                 (refused.spot.clone(), fields)
             }
@@ -133,16 +140,16 @@ impl Failure {
 }
 
 /// A refusal as programs read it.
-pub fn refusal_fields(refusal: Refusal, unit: Unit) -> [(&'static str, Json); 2] {
+pub fn refusal_fields(refusal: Refusal, kind: Kind) -> [(&'static str, Json); 2] {
     [
         ("refused", Json::Whole(refusal.number().into())),
-        ("sentence", Json::text(refusal.sentence(unit))),
+        ("sentence", Json::text(refusal.sentence(kind))),
     ]
 }
 
 /// A refusal as people read it.
-pub fn refusal_text(refusal: Refusal, unit: Unit) -> String {
-    format!("refused {}: {}", refusal.number(), refusal.sentence(unit))
+pub fn refusal_text(refusal: Refusal, kind: Kind) -> String {
+    format!("refused {}: {}", refusal.number(), refusal.sentence(kind))
 }
 
 impl fmt::Display for Failure {
@@ -151,7 +158,7 @@ impl fmt::Display for Failure {
             Failure::Usage(what) => write!(to, "trail: {what}"),
             Failure::Line(spot, what) => write!(to, "{spot}: {what}"),
             Failure::Refused(refused) => {
-                let what = refusal_text(refused.refusal, refused.unit);
+                let what = refusal_text(refused.refusal, refused.kind);
                 write!(to, "{}: {what}", refused.spot)?;
                 let fact = refused.fact;
                 fact.map_or(Ok(()), |fact| write!(to, " {fact}"))

@@ -3,9 +3,8 @@
 use std::ffi::{OsStr, OsString};
 use std::fmt;
 
-use trails::Unit;
+use trails::{AnyFix, Kind, Unit};
 
-use crate::trail::Fix;
 use crate::words;
 
 pub enum Json {
@@ -33,11 +32,23 @@ impl Json {
         Json::text(unit.symbol())
     }
 
-    /// Fixes as lists of time, x and y.
-    pub fn fixes(fixes: &[Fix]) -> Json {
-        let numbers = |fix: &Fix| [fix.t.into(), fix.x.into(), fix.y.into()];
-        let list = |fix| Json::List(numbers(fix).map(Json::Whole).into());
+    /// Fixes as lists of time, x and y and, of a kind with silences, 1 where one follows and else 0.
+    pub fn fixes(kind: Kind, fixes: &[AnyFix]) -> Json {
+        let numbers = |fix: &AnyFix| {
+            let silence = kind.has_silences().then_some(fix.silence.into());
+            let all = [fix.t.into(), fix.x.into(), fix.y.into()];
+            all.into_iter().chain(silence)
+        };
+        let list = |fix| Json::List(numbers(fix).map(Json::Whole).collect());
         Json::List(fixes.iter().map(list).collect())
+    }
+
+    /// How many silences there are, null for a trail of a kind that has none.
+    pub fn silences(kind: Kind, count: usize) -> Json {
+        match kind.has_silences() {
+            true => Json::Whole(count as i128),
+            false => Json::Null,
+        }
     }
 }
 

@@ -19,11 +19,14 @@ const HELP: &str = "\
 usage: trail list [--json] FILE
 
 Prints the trail that FILE begins with: its count and mark ('never' for one
-that was never thinned), then time, x and y of each fix, then 'end'. The unit
-of its lengths isn't in it; 'trail check' says that.
+that was never thinned), then time, x and y of each fix, with 'silence' where
+one follows, then 'end'. The unit of its lengths isn't in it; 'trail check'
+says that.
 
   --json   print one line:
-           {\"file\", \"unit\", \"count\", \"mark\", \"fixes\": [[t, x, y], ...]}
+           {\"file\", \"unit\", \"count\", \"mark\", \"fixes\": [[t, x, y], ...]};
+           if the trail can have silences, a fix is [t, x, y, 1] where one
+           follows, and else [t, x, y, 0]
 ";
 
 fn run(arguments: &Arguments) -> Result<Status, Failure> {
@@ -36,10 +39,10 @@ fn run(arguments: &Arguments) -> Result<Status, Failure> {
     }
     output::print_json(Json::Object(vec![
         ("file", Json::text(name)),
-        ("unit", Json::unit(trail.unit)),
+        ("unit", Json::unit(trail.unit())),
         ("count", Json::Whole(trail.fixes.len() as i128)),
         ("mark", Json::mark(trail.mark)),
-        ("fixes", Json::fixes(&trail.fixes)),
+        ("fixes", Json::fixes(trail.kind, &trail.fixes)),
     ]))?;
     Ok(Status::Done)
 }

@@ -60,14 +60,15 @@ usage: trail COMMAND ARGUMENTS
 After '--' no argument is an option, and '-' is a file's name. '--box 0 9 0 9'
 and '--box=0,9,0,9' are the same. Times are in seconds, and the lengths that a
 trail has, is asked with and is answered with in its own unit: centimetres, or
-millimetres if it was written so. Of a file that is read, what follows its
-trail is ignored.
+millimetres if it was written so. Between a fix that says 'silence' and the
+next one nobody knows where the cart was. Of a file that is read, what follows
+its trail is ignored.
 
 With --json the answer is one line of JSON, and so is a refusal, {\"file\",
 \"refused\", \"sentence\"}, or a failure, {\"file\", \"failed\"}. Refusal 3 has
-\"count\" too, 12 and 13 have \"first\" and \"last\", and what is about a line of a
-text has \"line\". A byte of a file's name that isn't UTF-8 is there one of
-\\udc80 to \\udcff, as Python has it.
+\"count\" too, 12 and 13 have \"first\" and \"last\", 21 has \"from\" and \"to\", and
+what is about a line of a text has \"line\". A byte of a file's name that isn't
+UTF-8 is there one of \\udc80 to \\udcff, as Python has it.
 
 Exit status: 0 done; 1 refused, with the refusal's number and sentence;
 2 wrong usage or a bad line; 3 a file couldn't be read or written, or an answer

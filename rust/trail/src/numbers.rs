@@ -5,7 +5,7 @@ use std::fmt;
 use std::os::unix::ffi::OsStrExt;
 use std::str::FromStr;
 
-use trails::{in_threes, of_both_units, Moment, Unit};
+use trails::{in_threes, of_every_kind, Moment, Unit};
 
 use crate::words;
 
@@ -21,7 +21,7 @@ pub enum Range {
 }
 
 fn of_unit(unit: Option<Unit>, range: fn(Unit) -> String) -> String {
-    unit.map_or_else(|| of_both_units(range), range)
+    unit.map_or_else(|| of_every_kind(|kind| range(kind.unit())), range)
 }
 
 impl fmt::Display for Range {
@@ -53,12 +53,8 @@ pub fn is_number(word: &OsStr) -> bool {
 
 /// The number that a word has, or what is wrong with the word.
 pub fn whole<N: FromStr>(word: &str, range: Range) -> Result<N, String> {
-    word.parse().map_err(|_| {
-        // a hostile word may be long
-        let start: String = word.chars().take(40).collect();
-        let start = words::harmless(start);
-        format!("'{start}' isn't a whole number from {range}")
-    })
+    let wrong = |_| format!("{} isn't a whole number from {range}", words::quoted(word));
+    word.parse().map_err(wrong)
 }
 
 /// The moment that `SECOND` or `SECOND.mmm` has.

@@ -27,10 +27,11 @@ const fn choice(
 
 const EDGES: &[&str] = &["X0", "X1", "Y0", "Y1"];
 
-pub static OPTIONS: [Choice; 9] = [
+pub static OPTIONS: [Choice; 10] = [
     choice("--json", &[], None),
     choice("--force", &[], None),
     choice("--millimetres", &[], None),
+    choice("--silence-after", &["SECONDS"], Some(Range::Seconds)),
     choice("--tolerance", &["E"], Some(Range::Tolerances(None))),
     choice("--days", &["D"], Some(Range::Days)),
     choice("--box", EDGES, Some(Range::Places(None))),

@@ -27,7 +27,9 @@ exactly, as fractions that aren't reduced. Then it says what that means of the
 original, the trail as the cart reported it, straight between its fixes: if
 FILE's trail was thinned, within which distance of the exact place the original
 was at that moment. The mark is believed: of a record from elsewhere this holds
-if its mark is right.
+if its mark is right. Inside a silence nobody knows where the cart was: that is
+refused, with the seconds at which the silence begins and ends; at these two a
+place is told.
 
   --json   print one line: {\"file\", \"unit\", \"x\", \"y\",
            \"exact\": {\"x\", \"y\", \"denominator\"}, \"mark\", \"means\"}
@@ -38,7 +40,7 @@ fn run(arguments: &Arguments) -> Result<Status, Failure> {
     let asked = moment(&word.to_string_lossy()).map_err(|what| arguments.wrong(&what))?;
     let trail = Trail::read(name)?;
     let found = trails::place(&trail.bytes, asked);
-    let found = found.map_err(|refusal| trail.refused(refusal))?;
+    let found = found.map_err(trail.refused_at(asked))?;
     match arguments.has("--json") {
         true => output::print_json(answer(&trail, found))?,
         false => output::print(&text(&trail, found))?,
@@ -51,7 +53,7 @@ fn text(trail: &Trail, found: Place) -> String {
         denominator, x, y, ..
     } = found;
     let (whole_x, whole_y) = (found.whole_x, found.whole_y);
-    let unit = trail.unit.symbol();
+    let unit = trail.unit().symbol();
     let exact = format!("exact {x}/{denominator} {y}/{denominator}");
     let means = meaning::of_place(trail);
     format!("place {whole_x} {whole_y} {unit}\n{exact}\n{means}\n")
@@ -65,7 +67,7 @@ fn answer(trail: &Trail, found: Place) -> Json {
     ]);
     Json::Object(vec![
         ("file", Json::text(&trail.name)),
-        ("unit", Json::unit(trail.unit)),
+        ("unit", Json::unit(trail.unit())),
         ("x", Json::Whole(found.whole_x.into())),
         ("y", Json::Whole(found.whole_y.into())),
         ("exact", exact),

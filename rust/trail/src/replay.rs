@@ -3,13 +3,13 @@
 use std::ffi::{OsStr, OsString};
 use std::fmt::Write as _;
 
-use trails::{Aging, Head, Refusal, Unit};
+use trails::{Aging, Head, Kind, Refusal, Unit};
 
 use crate::arguments::{Arguments, Command};
 use crate::failure::{refusal_fields, refusal_text, Failure, Status};
 use crate::json::Json;
 use crate::numbers::{whole, Range};
-use crate::trail::{fixes, refused, Trail};
+use crate::trail::{refused, Trail};
 use crate::{files, lines, output, words};
 
 pub const COMMAND: Command = Command {
@@ -66,16 +66,16 @@ fn run(arguments: &Arguments) -> Result<Status, Failure> {
     }
     let Trail {
         bytes: mut record,
-        unit,
+        kind,
         ..
     } = Trail::read(name)?;
     let text = files::read_text(calls)?;
-    let calls = lines::entries(calls, &text, |fields| aging(unit, fields))?;
+    let calls = lines::entries(calls, &text, |fields| aging(kind.unit(), fields))?;
     let calls = calls.into_iter().map(|(_, aging)| aging);
     let done: Vec<Done> = calls.map(|aging| make(aging, &mut record)).collect();
     let answer = match arguments.has("--json") {
         true => answer(name, &done, &record).map(|json| format!("{json}\n")),
-        false => text_of(&done, unit, &record),
+        false => text_of(&done, kind, &record),
     };
     output::print(&answer.map_err(refused(name, &record))?)?;
     Ok(Status::Done)
@@ -88,17 +88,18 @@ fn greatest(done: &[Done], unit: Unit) -> Option<u16> {
         .max()
 }
 
-fn text_of(done: &[Done], unit: Unit, record: &[u8]) -> Result<String, Refusal> {
+fn text_of(done: &[Done], kind: Kind, record: &[u8]) -> Result<String, Refusal> {
     let mut text = String::new();
     for Done { aging, answer } in done {
         let (name, number) = named(*aging);
         let what = match answer {
             Ok((kept, measured)) => format!("kept {kept}, measured {measured}"),
-            Err(refusal) => refusal_text(*refusal, unit),
+            Err(refusal) => refusal_text(*refusal, kind),
         };
         // writing to a String never fails
         let _ = writeln!(text, "{name} {number}: {what}");
     }
+    let unit = kind.unit();
     let greatest = greatest(done, unit).map_or("none".into(), |e| words::length(e, unit));
     let listing = trails::list(record)?;
     Ok(format!("{text}E {greatest}\n{listing}"))
@@ -112,7 +113,7 @@ fn named(aging: Aging) -> (&'static str, u16) {
 }
 
 fn answer(name: &OsStr, done: &[Done], record: &[u8]) -> Result<Json, Refusal> {
-    let Head { unit, mark, .. } = trails::check(record)?;
+    let Head { kind, mark, .. } = trails::check(record)?;
     let one = |done: &Done| {
         let (name, number) = named(done.aging);
         let mut fields = vec![(name, Json::Whole(number.into()))];
@@ -121,16 +122,16 @@ fn answer(name: &OsStr, done: &[Done], record: &[u8]) -> Result<Json, Refusal> {
                 ("count", Json::Whole(kept.into())),
                 ("measured", Json::Whole(measured.into())),
             ]),
-            Err(refusal) => fields.extend(refusal_fields(refusal, unit)),
+            Err(refusal) => fields.extend(refusal_fields(refusal, kind)),
         }
         Json::Object(fields)
     };
     Ok(Json::Object(vec![
         ("file", Json::text(name)),
-        ("unit", Json::unit(unit)),
+        ("unit", Json::unit(kind.unit())),
         ("answers", Json::List(done.iter().map(one).collect())),
-        ("E", Json::mark(greatest(done, unit))),
+        ("E", Json::mark(greatest(done, kind.unit()))),
         ("mark", Json::mark(mark)),
-        ("fixes", Json::fixes(&fixes(record)?)),
+        ("fixes", Json::fixes(kind, &trails::fixes(record)?.any())),
     ]))
 }

@@ -2,50 +2,67 @@
 
 use std::ffi::{OsStr, OsString};
 
-use trails::{Head, Refusal, Unit};
+use trails::{AnyFix, Head, Kind, Moment, Refusal, Unit, Window};
 
 use crate::failure::{Fact, Failure, Refused, Spot};
 use crate::files;
 
-/// A fix, its place in the trail's unit.
-#[derive(Clone, Copy)]
-pub struct Fix {
-    pub t: u32,
-    pub x: i32,
-    pub y: i32,
-}
+/// Both ends of a silence, in seconds.
+pub type Silence = (u32, u32);
 
 pub struct Trail {
     pub name: OsString,
     /// what the file begins with: the record, and maybe more
     pub bytes: Vec<u8>,
-    /// the unit of all its lengths
-    pub unit: Unit,
+    pub kind: Kind,
     /// the greatest tolerance applied so far, none for a trail that was never thinned
     pub mark: Option<u16>,
-    pub fixes: Vec<Fix>,
+    pub fixes: Vec<AnyFix>,
 }
 
-/// The fixes of the record that the bytes begin with.
-pub fn fixes(record: &[u8]) -> Result<Vec<Fix>, Refusal> {
-    let numbers = trails::fixes(record)?.numbers();
-    let fixes = numbers.into_iter().map(|(t, x, y)| Fix { t, x, y });
-    Ok(fixes.collect())
+/// The stretches between silences: of a trail without any, all of it.
+pub fn stretches(fixes: &[AnyFix]) -> impl Iterator<Item = &[AnyFix]> {
+    fixes.split_inclusive(|fix| fix.silence)
 }
 
 impl Trail {
     pub fn read(name: &OsStr) -> Result<Trail, Failure> {
         let (bytes, _) = files::begin(name)?;
         let head = trails::check(&bytes).map_err(refused(name, &bytes))?;
-        let fixes = fixes(&bytes).map_err(refused(name, &bytes))?;
-        let Head { unit, mark, .. } = head;
+        let fixes = trails::fixes(&bytes).map_err(refused(name, &bytes))?;
+        let Head { kind, mark, .. } = head;
         Ok(Trail {
             name: name.to_os_string(),
             bytes,
-            unit,
+            kind,
             mark,
-            fixes,
+            fixes: fixes.any(),
         })
+    }
+
+    /// The unit of all its lengths.
+    pub fn unit(&self) -> Unit {
+        self.kind.unit()
+    }
+
+    /// Its silences, in order.
+    pub fn silences(&self) -> impl Iterator<Item = Silence> + '_ {
+        let legs = self.fixes.iter().zip(self.fixes.iter().skip(1));
+        let silent = legs.filter(|(from, _)| from.silence);
+        silent.map(|(from, to)| (from.t, to.t))
+    }
+
+    /// How many of its silences have some time of a window strictly inside them.
+    pub fn silences_in(&self, window: Window) -> usize {
+        let meets = |(from, to): &Silence| window.start < *to && *from < window.end;
+        self.silences().filter(meets).count()
+    }
+
+    /// The silence that a moment is strictly inside.
+    fn silence_at(&self, moment: Moment) -> Option<Silence> {
+        let after = |from: u32| (moment.second, moment.thousandths) > (from, 0);
+        let mut silences = self.silences();
+        silences.find(|(from, to)| after(*from) && moment.second < *to)
     }
 
     /// Its first second: an accepted trail has a fix.
@@ -61,11 +78,27 @@ impl Trail {
     /// A question that is turned away, with the trail's times if it is about them.
     pub fn refused(&self, refusal: Refusal) -> Failure {
         let about_times = matches!(refusal, Refusal::BadMoment | Refusal::BadWindow);
+        let seconds = about_times.then_some(Fact::Seconds(self.first(), self.last()));
+        self.refused_with(refusal, seconds)
+    }
+
+    /// A place that is turned away, also with the silence if it is in one.
+    pub fn refused_at(&self, moment: Moment) -> impl FnOnce(Refusal) -> Failure + '_ {
+        move |refusal| match refusal {
+            Refusal::InSilence => {
+                let silence = self.silence_at(moment);
+                self.refused_with(refusal, silence.map(|(from, to)| Fact::Silence(from, to)))
+            }
+            other => self.refused(other),
+        }
+    }
+
+    fn refused_with(&self, refusal: Refusal, fact: Option<Fact>) -> Failure {
         Failure::Refused(Refused {
             spot: Spot::file(&self.name),
             refusal,
-            unit: self.unit,
-            fact: about_times.then_some(Fact::Seconds(self.first(), self.last())),
+            kind: self.kind,
+            fact,
         })
     }
 }
@@ -77,8 +110,8 @@ pub fn refused<'a>(name: &'a OsStr, bytes: &'a [u8]) -> impl FnOnce(Refusal) -> 
         Failure::Refused(Refused {
             spot: Spot::file(name),
             refusal,
-            // bytes that say no unit are refused by sentences that have no limit
-            unit: trails::claimed_unit(bytes).unwrap_or(Unit::Centimetres),
+            // bytes that say no kind are refused by sentences that have no limit
+            kind: trails::claimed_kind(bytes).unwrap_or(Kind::Centimetres),
             fact: count.and_then(|count| Fact::count(refusal, count)),
         })
     }

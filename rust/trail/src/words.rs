@@ -49,6 +49,12 @@ pub fn harmless(word: impl AsRef<OsStr>) -> String {
     pieces(word.as_ref(), escaped, |byte| format!("\\x{byte:02x}")).collect()
 }
 
+/// The start of a word that a message quotes: a hostile one may be long.
+pub fn quoted(word: &str) -> String {
+    let start: String = word.chars().take(40).collect();
+    format!("'{}'", harmless(start))
+}
+
 /// A file's name as people read it, or what stands for the standard input.
 pub fn shown(name: &OsStr) -> String {
     match name.as_bytes() {

@@ -1,100 +1,199 @@
 //! `trail write`: makes a trail of a text with fixes.
 
 use std::ffi::{OsStr, OsString};
+use std::str::FromStr;
 
-use trails::{Fix, InUnit, MillimetreFix, Refusal, Unit};
+use trails::{AnyFix, Fix, Kind, MillimetreFix, OfKind, Refusal, SilenceFix, Unit};
 
 use crate::arguments::{Arguments, Command};
 use crate::failure::{Fact, Failure, Refused, Spot, Status};
 use crate::json::Json;
 use crate::numbers::{whole, Range};
 use crate::store::store;
-use crate::{files, lines, output};
+use crate::{files, lines, output, words};
 
 pub const COMMAND: Command = Command {
     name: "write",
     help: HELP,
-    options: &["-o", "--force", "--millimetres", "--json"],
+    options: &[
+        "-o",
+        "--force",
+        "--millimetres",
+        "--silence-after",
+        "--json",
+    ],
     run,
 };
 
 const HELP: &str = "\
-usage: trail write [--millimetres] [--json] [--force] FIXES -o FILE
+usage: trail write [--millimetres | --silence-after SECONDS] [--json] [--force]
+                   FIXES -o FILE
 
 Makes a trail, marked never thinned, of a text that has a fix in each line:
 
-  time x y      or      time,x,y
+  time x y              or      time,x,y
+  time x y silence      or      time,x,y,silence
 
 in whole seconds and centimetres, -16,000 to 16,000. Empty lines, and comments
 from '#' to a line's end, are skipped. A bad line is named with its number, and
 then nothing is stored; a FILE that is there already is replaced only by a
 whole new one.
 
+Where a fix has 'silence' or '1' in the fourth place, the cart dropped out after
+it: until the next fix nobody knows where it was. '-', '0' or nothing there says
+that it didn't. If any line has a fourth place, or --silence-after is given, the
+trail is of the kind that can have silences.
+
+  --silence-after SECONDS
+                 a silence is also where two neighbouring fixes are further
+                 apart than so many seconds
   --millimetres  x and y are in millimetres, -160,000 to 160,000, and so are
-                 then all lengths of the trail
+                 then all lengths of the trail; no kind of trail has silences
+                 too
   -o FILE        where the trail goes; '-' is the standard output
   --force        let FILE be the text itself, which the trail then replaces
-  --json         print one line: {\"file\", \"unit\", \"count\", \"bytes\"}
+  --json         print one line: {\"file\", \"unit\", \"count\", \"silences\",
+                 \"bytes\"}, with null for the silences if it can have none
 ";
 
-fn fix<F: InUnit>(fields: &[&str]) -> Result<F, String> {
-    let &[t, x, y] = fields else {
-        let found = fields.len();
-        return Err(format!(
-            "a fix is 'time x y', and here stand {found} fields"
-        ));
+/// A line of the text, with lengths as its unit has them.
+struct Line<L> {
+    t: u32,
+    x: L,
+    y: L,
+    /// what stands in the fourth place, if there is one
+    silence: Option<bool>,
+}
+
+fn line<L: FromStr>(unit: Unit, fields: &[&str]) -> Result<Line<L>, String> {
+    let (t, x, y, fourth) = match *fields {
+        [t, x, y] => (t, x, y, None),
+        [t, x, y, fourth] => (t, x, y, Some(fourth)),
+        _ => {
+            let found = fields.len();
+            return Err(format!(
+                "a fix is 'time x y' or 'time x y silence', and here stand {found} fields"
+            ));
+        }
     };
     let named = |field| move |what| format!("{field}: {what}");
-    let places = Range::Places(Some(F::UNIT));
-    Ok(F::new(
-        whole(t, Range::Seconds).map_err(named("time"))?,
-        whole(x, places).map_err(named("x"))?,
-        whole(y, places).map_err(named("y"))?,
-    ))
+    let places = Range::Places(Some(unit));
+    Ok(Line {
+        t: whole(t, Range::Seconds).map_err(named("time"))?,
+        x: whole(x, places).map_err(named("x"))?,
+        y: whole(y, places).map_err(named("y"))?,
+        silence: fourth.map(silence).transpose().map_err(named("silence"))?,
+    })
+}
+
+fn silence(word: &str) -> Result<bool, String> {
+    match word {
+        "silence" | "1" => Ok(true),
+        "-" | "0" | "" => Ok(false),
+        other => {
+            let other = words::quoted(other);
+            Err(format!("{other} isn't 'silence', '1', '-' or '0'"))
+        }
+    }
 }
 
 /// The line of the fix that a refusal is about: the first of which its sentence holds.
-fn refused_line<F: InUnit>(refusal: Refusal, entries: &[(usize, F)]) -> Option<usize> {
-    let most = F::UNIT.limits().place;
+fn refused_line(kind: Kind, refusal: Refusal, entries: &[(usize, AnyFix)]) -> Option<usize> {
+    let most = kind.unit().limits().place;
     let outside = |c: i32| !(-most..=most).contains(&c);
-    let misplaced = |fix: &F| {
-        let (_, x, y) = fix.numbers();
-        outside(x) || outside(y)
-    };
-    let time = |fix: &F| fix.numbers().0;
-    let first = time(&entries.first()?.1);
+    let (_, first) = entries.first()?;
     let found = match refusal {
-        Refusal::Misplaced => entries.iter().find(|(_, fix)| misplaced(fix)),
+        Refusal::Misplaced => {
+            let mut fixes = entries.iter();
+            fixes.find(|(_, fix)| outside(fix.x) || outside(fix.y))
+        }
         Refusal::Unordered => {
             let mut pairs = entries.iter().zip(entries.iter().skip(1));
-            let pair = pairs.find(|((_, one), (_, next))| time(next) <= time(one));
+            let pair = pairs.find(|((_, one), (_, next))| next.t <= one.t);
             pair.map(|(_, next)| next)
         }
         Refusal::LongSpan => {
-            let late = |fix: &F| time(fix).abs_diff(first) > 65_535;
+            let late = |fix: &AnyFix| fix.t.abs_diff(first.t) > 65_535;
             entries.iter().find(|(_, fix)| late(fix))
         }
+        // no text says a byte that is neither 0 nor 1
+        Refusal::BadSilence => entries.last(),
         _ => None,
     };
     found.map(|(line, _)| *line)
 }
 
-/// The record of a text with fixes in one unit, and how many it has.
-fn made<F: InUnit>(from: &OsStr, text: &[u8]) -> Result<(Vec<u8>, usize), Failure> {
-    let entries = lines::entries(from, text, fix::<F>)?;
+/// What was made of a text.
+struct Made {
+    record: Vec<u8>,
+    kind: Kind,
+    count: usize,
+    silences: usize,
+}
+
+/// The record of fixes, each with the number of its line.
+fn made<F: OfKind>(from: &OsStr, entries: &[(usize, F)]) -> Result<Made, Failure> {
     let fixes: Vec<F> = entries.iter().map(|(_, fix)| *fix).collect();
+    let entries: Vec<(usize, AnyFix)> = entries.iter().map(|(n, fix)| (*n, fix.any())).collect();
     let record = trails::write(&fixes).map_err(|refusal| {
         Failure::Refused(Refused {
             spot: Spot {
-                line: refused_line(refusal, &entries),
+                line: refused_line(F::KIND, refusal, &entries),
                 ..Spot::file(from)
             },
             refusal,
-            unit: F::UNIT,
+            kind: F::KIND,
             fact: Fact::count(refusal, fixes.len()),
         })
     })?;
-    Ok((record, fixes.len()))
+    Ok(Made {
+        record,
+        kind: F::KIND,
+        count: fixes.len(),
+        silences: entries.iter().filter(|(_, fix)| fix.silence).count(),
+    })
+}
+
+/// Why a text and its options may not fit each other.
+const NOT_BOTH: &str = "no kind of trail has millimetres and silences";
+
+fn in_millimetres(from: &OsStr, text: &[u8]) -> Result<Made, Failure> {
+    let fix = |fields: &[&str]| {
+        let Line { t, x, y, silence } = line(Unit::Millimetres, fields)?;
+        match silence {
+            None => Ok(MillimetreFix { t, x, y }),
+            Some(_) => Err(NOT_BOTH.to_string()),
+        }
+    };
+    made(from, &lines::entries(from, text, fix)?)
+}
+
+/// With silences if a line says one way or the other, or if they are where more than so many seconds pass.
+fn in_centimetres(from: &OsStr, text: &[u8], after: Option<u32>) -> Result<Made, Failure> {
+    let lines = lines::entries(from, text, |fields| line(Unit::Centimetres, fields))?;
+    let said = lines.iter().any(|(_, line)| line.silence.is_some());
+    if !said && after.is_none() {
+        let fixes = lines.into_iter();
+        let fixes = fixes.map(|(number, Line { t, x, y, .. })| (number, Fix { t, x, y }));
+        return made(from, &fixes.collect::<Vec<_>>());
+    }
+    let fix = |(number, Line { t, x, y, silence })| {
+        let silence = silence == Some(true);
+        (number, SilenceFix { t, x, y, silence })
+    };
+    let mut fixes: Vec<(usize, SilenceFix)> = lines.into_iter().map(fix).collect();
+    if let Some(after) = after {
+        fall_silent(&mut fixes, after);
+    }
+    made(from, &fixes)
+}
+
+/// Sets a silence wherever the next fix is more than so many seconds later.
+fn fall_silent(fixes: &mut [(usize, SilenceFix)], after: u32) {
+    let later: Vec<u32> = fixes.iter().skip(1).map(|(_, fix)| fix.t).collect();
+    for ((_, fix), next) in fixes.iter_mut().zip(later) {
+        fix.silence |= next.saturating_sub(fix.t) > after;
+    }
 }
 
 fn run(arguments: &Arguments) -> Result<Status, Failure> {
@@ -103,22 +202,25 @@ fn run(arguments: &Arguments) -> Result<Status, Failure> {
     if files::is_read(from, to) && !arguments.has("--force") {
         return Err(arguments.wrong("-o names the text itself; --force replaces it"));
     }
+    let after = arguments.number("--silence-after")?;
+    let fine = arguments.has("--millimetres");
+    if fine && after.is_some() {
+        let what = format!("--millimetres and --silence-after: {NOT_BOTH}");
+        return Err(arguments.wrong(&what));
+    }
     let text = files::read_text(from)?;
-    let unit = match arguments.has("--millimetres") {
-        true => Unit::Millimetres,
-        false => Unit::Centimetres,
+    let made = match fine {
+        true => in_millimetres(from, &text)?,
+        false => in_centimetres(from, &text, after)?,
     };
-    let (record, count) = match unit {
-        Unit::Centimetres => made::<Fix>(from, &text)?,
-        Unit::Millimetres => made::<MillimetreFix>(from, &text)?,
-    };
-    store(to, &[from], record.as_slice())?;
+    store(to, &[from], made.record.as_slice())?;
     if arguments.has("--json") {
         output::print_json(Json::Object(vec![
             ("file", Json::text(to)),
-            ("unit", Json::unit(unit)),
-            ("count", Json::Whole(count as i128)),
-            ("bytes", Json::Whole(record.len() as i128)),
+            ("unit", Json::unit(made.kind.unit())),
+            ("count", Json::Whole(made.count as i128)),
+            ("silences", Json::silences(made.kind, made.silences)),
+            ("bytes", Json::Whole(made.record.len() as i128)),
         ]))?;
     }
     Ok(Status::Done)

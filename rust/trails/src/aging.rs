@@ -48,9 +48,10 @@ impl Aging {
 }
 
 /// Ages the record by tolerance, in its unit: its fixes are thinned, the kept ones close up at its start, length
-/// and count follow, and the mark becomes the greatest tolerance applied. All bytes from the new length on stay: fixes
-/// that were thinned away may still be among them, so what is stored of a buffer ends at `Head::length`. Answers how
-/// many fixes were measured. Makes checks 1 to 10.
+/// and count follow, and the mark becomes the greatest tolerance applied. Each stretch between silences is thinned by
+/// itself, so that both ends of every silence stay. All bytes from the new length on stay too: fixes that were thinned
+/// away may still be among them, so what is stored of a buffer ends at `Head::length`. Answers how many fixes were
+/// measured. Makes checks 1 to 9, 20 and 10.
 ///
 /// STACK. An aging takes up to 730,000 bytes of stack, for a record of 4,096 fixes. Rust's threads have more unless they
 /// are asked to have less; one with less must not age long trails.
@@ -59,14 +60,14 @@ pub fn age(record: &mut [u8], tolerance: u16) -> Result<u32, Refusal> {
 }
 
 /// Ages the record by days: from day 2 at a tolerance of 10 centimetres, from day 7 at 25, from day 30 at 100, from day
-/// 90 at 400. Days 0 and 1 change nothing. Makes checks 1 to 9. STACK: as `age`.
+/// 90 at 400. Days 0 and 1 change nothing. Makes checks 1 to 9 and 20. STACK: as `age`.
 pub fn age_by_days(record: &mut [u8], days: u16) -> Result<u32, Refusal> {
     value(interface::age_by_days(record, days))
 }
 
 /// Makes all agings of a list, one after the other, each on the record as the one before left it. Those that are turned
 /// away, by a tolerance above the unit's greatest, change nothing, and those after them are made. Answers how many they
-/// were. Makes checks 1 to 9, and where one fails makes no aging. STACK: as `age`.
+/// were. Makes checks 1 to 9 and 20, and where one fails makes no aging. STACK: as `age`.
 pub fn run(record: &mut [u8], list: &[Aging]) -> Result<usize, Refusal> {
     let run = interface::run(record, &numbers(list));
     Refusal::none_in(run.refusal)?;

@@ -1,9 +1,9 @@
-//! Fixes, in each of the units.
+//! Fixes, of each of the kinds.
 
 use std::str::FromStr;
 
 use crate::interface::{self, Answer};
-use crate::unit::Unit;
+use crate::kind::Kind;
 
 /// Where a cart was at a second, in centimetres.
 #[derive(Clone, Copy, Debug, PartialEq, Eq, Hash)]
@@ -27,41 +27,109 @@ pub struct MillimetreFix {
     pub y: i32,
 }
 
-/// A fix whose type says the unit of its place. So a list of them becomes a record in that unit and in no other.
-pub trait InUnit: Copy + lent::Lent {
-    /// The unit.
-    const UNIT: Unit;
+/// Where a cart was at a second, in centimetres, and whether it fell silent then.
+#[derive(Clone, Copy, Debug, PartialEq, Eq, Hash)]
+pub struct SilenceFix {
+    /// Seconds.
+    pub t: u32,
+    /// Centimetres.
+    pub x: i16,
+    /// Centimetres.
+    pub y: i16,
+    /// Whether a silence follows: until the next fix nothing is known of the cart. The last fix has no next one.
+    pub silence: bool,
+}
+
+/// A fix of whatever kind, its place in the record's unit: for what is the same of every kind.
+#[derive(Clone, Copy, Debug, PartialEq, Eq, Hash)]
+pub struct AnyFix {
+    /// Seconds.
+    pub t: u32,
+    /// In the record's unit.
+    pub x: i32,
+    /// In the record's unit.
+    pub y: i32,
+    /// Whether a silence follows; never so if the record's kind has none.
+    pub silence: bool,
+}
+
+/// A fix whose type says its kind. So a list of them becomes a record of that kind and of no other.
+pub trait OfKind: Copy + lent::Lent {
+    /// The kind.
+    const KIND: Kind;
 
     /// An x or a y.
     type Length: Copy + FromStr;
 
-    /// A fix of its time, x and y.
+    /// A fix of its time, x and y, which no silence follows.
     fn new(t: u32, x: Self::Length, y: Self::Length) -> Self;
 
-    /// Its time, x and y.
-    fn numbers(self) -> (u32, i32, i32);
+    /// Its numbers.
+    fn any(self) -> AnyFix;
 }
 
-mod lent {
-    use super::Answer;
+pub(crate) mod lent {
+    use super::{Answer, AnyFix};
+
+    /// Fixes as they are lent to the interface.
+    #[derive(Default)]
+    pub struct Columns {
+        pub t: Vec<u32>,
+        pub x: Vec<i32>,
+        pub y: Vec<i32>,
+        pub silence: Vec<u8>,
+    }
+
+    impl Columns {
+        /// Room for so many fixes.
+        pub fn room(count: usize) -> Columns {
+            Columns {
+                t: vec![0; count],
+                x: vec![0; count],
+                y: vec![0; count],
+                silence: vec![0; count],
+            }
+        }
+
+        pub fn push(&mut self, fix: AnyFix) {
+            self.t.push(fix.t);
+            self.x.push(fix.x);
+            self.y.push(fix.y);
+            self.silence.push(fix.silence.into());
+        }
+
+        /// The fix in each row.
+        pub fn rows(self) -> impl Iterator<Item = AnyFix> {
+            let places = self.x.into_iter().zip(self.y);
+            let rows = self.t.into_iter().zip(places).zip(self.silence);
+            rows.map(|((t, (x, y)), silence)| AnyFix {
+                t,
+                x,
+                y,
+                silence: silence != 0,
+            })
+        }
+    }
 
     /// How columns of such fixes are lent to the interface. It can't be named outside, so there are no other types of
     /// fixes.
     pub trait Lent {
-        fn write(t: &[u32], x: &[i32], y: &[i32], output: &mut [u8]) -> Answer;
+        fn write(columns: &Columns, output: &mut [u8]) -> Answer;
     }
 }
 
-macro_rules! in_unit {
-    ($fix:ident, $length:ty, $unit:expr, $write:path) => {
+use lent::Columns;
+
+macro_rules! without_silences {
+    ($fix:ident, $length:ty, $kind:expr, $write:path) => {
         impl lent::Lent for $fix {
-            fn write(t: &[u32], x: &[i32], y: &[i32], output: &mut [u8]) -> Answer {
-                $write(t, x, y, output)
+            fn write(columns: &Columns, output: &mut [u8]) -> Answer {
+                $write(&columns.t, &columns.x, &columns.y, output)
             }
         }
 
-        impl InUnit for $fix {
-            const UNIT: Unit = $unit;
+        impl OfKind for $fix {
+            const KIND: Kind = $kind;
 
             type Length = $length;
 
@@ -69,36 +137,69 @@ macro_rules! in_unit {
                 $fix { t, x, y }
             }
 
-            fn numbers(self) -> (u32, i32, i32) {
-                (self.t, self.x.into(), self.y.into())
+            fn any(self) -> AnyFix {
+                AnyFix {
+                    t: self.t,
+                    x: self.x.into(),
+                    y: self.y.into(),
+                    silence: false,
+                }
             }
         }
     };
 }
 
-in_unit!(Fix, i16, Unit::Centimetres, interface::write);
-in_unit!(
+without_silences!(Fix, i16, Kind::Centimetres, interface::write);
+without_silences!(
     MillimetreFix,
     i32,
-    Unit::Millimetres,
+    Kind::Millimetres,
     interface::write_millimetres
 );
 
-/// The fixes of a record, in its unit.
+impl lent::Lent for SilenceFix {
+    fn write(columns: &Columns, output: &mut [u8]) -> Answer {
+        let Columns { t, x, y, silence } = columns;
+        interface::write_silences(t, x, y, silence, output)
+    }
+}
+
+impl OfKind for SilenceFix {
+    const KIND: Kind = Kind::Silences;
+
+    type Length = i16;
+
+    fn new(t: u32, x: i16, y: i16) -> SilenceFix {
+        let silence = false;
+        SilenceFix { t, x, y, silence }
+    }
+
+    fn any(self) -> AnyFix {
+        AnyFix {
+            silence: self.silence,
+            ..Fix::new(self.t, self.x, self.y).any()
+        }
+    }
+}
+
+/// The fixes of a record, of its kind.
 #[derive(Clone, Debug, PartialEq, Eq)]
 pub enum Fixes {
     /// Those of a record in centimetres.
     Centimetres(Vec<Fix>),
     /// Those of a record in millimetres.
     Millimetres(Vec<MillimetreFix>),
+    /// Those of a record with silences.
+    Silences(Vec<SilenceFix>),
 }
 
 impl Fixes {
-    /// The unit of their places.
-    pub fn unit(&self) -> Unit {
+    /// Their kind.
+    pub fn kind(&self) -> Kind {
         match self {
-            Fixes::Centimetres(_) => Unit::Centimetres,
-            Fixes::Millimetres(_) => Unit::Millimetres,
+            Fixes::Centimetres(_) => Kind::Centimetres,
+            Fixes::Millimetres(_) => Kind::Millimetres,
+            Fixes::Silences(_) => Kind::Silences,
         }
     }
 
@@ -107,14 +208,16 @@ impl Fixes {
         match self {
             Fixes::Centimetres(list) => list.len(),
             Fixes::Millimetres(list) => list.len(),
+            Fixes::Silences(list) => list.len(),
         }
     }
 
-    /// Time, x and y of each, the last two in the unit: for what is the same in every unit.
-    pub fn numbers(&self) -> Vec<(u32, i32, i32)> {
+    /// The same fixes without their kind.
+    pub fn any(&self) -> Vec<AnyFix> {
         match self {
-            Fixes::Centimetres(list) => list.iter().map(|fix| fix.numbers()).collect(),
-            Fixes::Millimetres(list) => list.iter().map(|fix| fix.numbers()).collect(),
+            Fixes::Centimetres(list) => list.iter().map(|fix| fix.any()).collect(),
+            Fixes::Millimetres(list) => list.iter().map(|fix| fix.any()).collect(),
+            Fixes::Silences(list) => list.iter().map(|fix| fix.any()).collect(),
         }
     }
 }

@@ -10,7 +10,7 @@
 pub struct Head {
     /// 0 for none; else all that follows is 0.
     pub refusal: u32,
-    /// 1 for a record in centimetres, 2 for one in millimetres.
+    /// 1 for a record in centimetres, 2 for one in millimetres, 3 for one in centimetres with silences.
     pub kind: u32,
     /// How many fixes the record has.
     pub count: u32,
@@ -34,6 +34,8 @@ pub struct Step {
     pub x: i32,
     /// In the record's unit.
     pub y: i32,
+    /// 1 if a silence follows the fix, else 0.
+    pub silence: u32,
 }
 
 /// A refusal, or a value.
@@ -105,8 +107,8 @@ pub struct Question {
     pub top: i32,
 }
 
-/// The most bytes that a listing has.
-pub const LONGEST_TEXT: usize = 126_997;
+/// Room for every listing: none has more bytes.
+pub const LONGEST_TEXT: usize = 159_765;
 
 extern "C" {
     fn trails_check(record: *const u8, lent: usize) -> Head;
@@ -120,6 +122,8 @@ extern "C" {
         x_count: usize,
         y: *mut i32,
         y_count: usize,
+        silence: *mut u8,
+        silence_count: usize,
     ) -> Answer;
     fn trails_write(
         t: *const u32,
@@ -138,6 +142,18 @@ extern "C" {
         x_count: usize,
         y: *const i32,
         y_count: usize,
+        output: *mut u8,
+        output_bytes: usize,
+    ) -> Answer;
+    fn trails_write_silences(
+        t: *const u32,
+        t_count: usize,
+        x: *const i32,
+        x_count: usize,
+        y: *const i32,
+        y_count: usize,
+        silence: *const u8,
+        silence_count: usize,
         output: *mut u8,
         output_bytes: usize,
     ) -> Answer;
@@ -170,22 +186,28 @@ extern "C" {
     ) -> Crossing;
 }
 
-/// Whether the bytes begin with a record: checks 1 to 9.
+/// Whether the bytes begin with a record: checks 1 to 9 and 20.
 pub fn check(record: &[u8]) -> Head {
     // SAFETY: a slice's pointer isn't null, is aligned, and reaches as many elements as its length says, all of
     // them readable; the header asks nothing else. The calls below say only what they have more than this one.
     unsafe { trails_check(record.as_ptr(), record.len()) }
 }
 
-/// The fix at a position: checks 1 to 9.
+/// The fix at a position: checks 1 to 9 and 20.
 pub fn read(record: &[u8], position: usize) -> Step {
     // SAFETY: as in `check`.
     unsafe { trails_read(record.as_ptr(), record.len(), position) }
 }
 
-/// All fixes, into three columns, of which each gets as many as it holds: checks 1 to 9. The value is the record's
-/// count, and x and y are in the record's unit.
-pub fn read_all(record: &[u8], t: &mut [u32], x: &mut [i32], y: &mut [i32]) -> Answer {
+/// All fixes, into four columns, of which each gets as many as it holds: checks 1 to 9 and 20. The value is the
+/// record's count, x and y are in the record's unit, and a silence is 1 if one follows, else 0.
+pub fn read_all(
+    record: &[u8],
+    t: &mut [u32],
+    x: &mut [i32],
+    y: &mut [i32],
+    silence: &mut [u8],
+) -> Answer {
     // SAFETY: as in `check`; each column is lent alone, so that it may be written and overlaps nothing else.
     unsafe {
         trails_read_all(
@@ -197,11 +219,13 @@ pub fn read_all(record: &[u8], t: &mut [u32], x: &mut [i32], y: &mut [i32]) -> A
             x.len(),
             y.as_mut_ptr(),
             y.len(),
+            silence.as_mut_ptr(),
+            silence.len(),
         )
     }
 }
 
-/// A writer of the header.
+/// A writer of the header that takes three columns.
 type Writer = unsafe extern "C" fn(
     *const u32,
     usize,
@@ -240,31 +264,57 @@ pub fn write_millimetres(t: &[u32], x: &[i32], y: &[i32], output: &mut [u8]) -> 
     written(trails_write_millimetres, t, x, y, output)
 }
 
+/// The record, in centimetres with silences, of the fixes in four columns, as long as the shortest: checks 3, 7, 8, 9,
+/// 20 and 15. The value is its length.
+pub fn write_silences(
+    t: &[u32],
+    x: &[i32],
+    y: &[i32],
+    silence: &[u8],
+    output: &mut [u8],
+) -> Answer {
+    // SAFETY: as in `written`.
+    unsafe {
+        trails_write_silences(
+            t.as_ptr(),
+            t.len(),
+            x.as_ptr(),
+            x.len(),
+            y.as_ptr(),
+            y.len(),
+            silence.as_ptr(),
+            silence.len(),
+            output.as_mut_ptr(),
+            output.len(),
+        )
+    }
+}
+
 /// The listing's text, at the output's start: answers its length.
 pub fn list(record: &[u8], output: &mut [u8; LONGEST_TEXT]) -> usize {
     // SAFETY: as in `check`; the output is lent alone, so that it may be written, and has the bytes that are asked.
     unsafe { trails_list(record.as_ptr(), record.len(), output) }
 }
 
-/// Ages by tolerance: checks 1 to 10. The value is how many fixes were measured.
+/// Ages by tolerance: checks 1 to 9, 20 and 10. The value is how many fixes were measured.
 pub fn age(record: &mut [u8], tolerance: u16) -> Answer {
     // SAFETY: as in `check`; the record is lent alone, so that it may be written.
     unsafe { trails_age(record.as_mut_ptr(), record.len(), tolerance) }
 }
 
-/// Ages by days: checks 1 to 9. The value is how many fixes were measured.
+/// Ages by days: checks 1 to 9 and 20. The value is how many fixes were measured.
 pub fn age_by_days(record: &mut [u8], days: u16) -> Answer {
     // SAFETY: as in `age`.
     unsafe { trails_age_by_days(record.as_mut_ptr(), record.len(), days) }
 }
 
-/// Where the cart was at a moment: checks 1 to 9, 11 and 12.
+/// Where the cart was at a moment: checks 1 to 9, 20, 11, 12 and 21.
 pub fn place(record: &[u8], second: u32, thousandths: u16) -> Place {
     // SAFETY: as in `check`.
     unsafe { trails_place(record.as_ptr(), record.len(), second, thousandths) }
 }
 
-/// Whether the cart was in a box: checks 1 to 9, 13 and 14.
+/// Whether the cart was in a box: checks 1 to 9, 20, 13 and 14.
 pub fn crosses(record: &[u8], asked: Question) -> Crossing {
     // SAFETY: as in `check`.
     unsafe {
@@ -281,8 +331,8 @@ pub fn crosses(record: &[u8], asked: Question) -> Crossing {
     }
 }
 
-/// Makes all agings of a list: checks 1 to 9. A call below 65,536 is a tolerance, and one from there on is days, by its
-/// lower 16 bits.
+/// Makes all agings of a list: checks 1 to 9 and 20. A call below 65,536 is a tolerance, and one from there on is days,
+/// by its lower 16 bits.
 pub fn run(record: &mut [u8], calls: &[u32]) -> Run {
     // SAFETY: as in `age`; the record overlaps no call.
     unsafe {
@@ -295,7 +345,8 @@ pub fn run(record: &mut [u8], calls: &[u32]) -> Run {
     }
 }
 
-/// Makes all agings of a list, as `run` does, and then asks as `crosses` does: checks 1 to 9, 13 and 14, before any aging.
+/// Makes all agings of a list, as `run` does, and then asks as `crosses` does: checks 1 to 9, 20, 13 and 14, before any
+/// aging.
 pub fn crosses_after(record: &mut [u8], calls: &[u32], asked: Question) -> Crossing {
     // SAFETY: as in `age`; the record overlaps no call.
     unsafe {

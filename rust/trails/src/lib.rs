@@ -1,14 +1,14 @@
 //! Trails of tray carts: reading, writing, aging and asking them.
 //!
 //! The work is done by the proved functions of `include/trails.h`. This package lends them slices and turns their
-//! answers into Rust's types: a refusal is an `Err` with document 01's number and sentence, and every content and
+//! answers into Rust's types: a refusal is an `Err` with the documents' number and sentence, and every content and
 //! every length of a slice has an answer. Nothing here panics, and only the module `interface` has `unsafe`.
 //!
 //! Times are in seconds. A record has its lengths in centimetres or in millimetres, and is asked and aged in its own
-//! unit.
+//! unit. One of kind 3 has silences: between a fix that says so and the next one nobody knows where the cart was.
 //!
 //! ```
-//! use trails::{Fix, Fixes, MillimetreFix, Refusal, Unit};
+//! use trails::{Area, Fix, Fixes, MillimetreFix, Moment, Refusal, SilenceFix, Unit, Window};
 //!
 //! let fix = |t, x| Fix { t, x, y: 0 };
 //! let mut record = trails::write(&[fix(0, 0), fix(10, 100), fix(20, 200)])?;
@@ -18,8 +18,20 @@
 //!
 //! let fix = |t, x| MillimetreFix { t, x, y: 0 };
 //! let mut record = trails::write(&[fix(0, 0), fix(10, 1_004), fix(20, 2_000)])?;
-//! assert_eq!(trails::check(&record)?.unit, Unit::Millimetres);
+//! assert_eq!(trails::check(&record)?.unit(), Unit::Millimetres);
 //! assert_eq!(trails::age(&mut record, 40_000), Ok(1));
+//!
+//! // silent from second 10 to second 300, while it went 500 cm: both these fixes stay, whatever the tolerance
+//! let fix = |t, x, silence| SilenceFix { t, x, y: 0, silence };
+//! let list = [fix(0, 0, false), fix(5, 51, false), fix(10, 100, true), fix(300, 600, false)];
+//! let mut record = trails::write(&list)?;
+//! assert_eq!(trails::age(&mut record, 32_000), Ok(1));
+//! assert_eq!(trails::fixes(&record)?, Fixes::Silences(vec![list[0], list[2], list[3]]));
+//! let at = |second| trails::place(&record, Moment { second, thousandths: 0 });
+//! assert_eq!(at(11), Err(Refusal::InSilence));
+//! assert_eq!(at(300)?.whole_x, 600);
+//! let between = Area { left: 200, right: 400, bottom: -9, top: 9 };
+//! assert_eq!(trails::crosses(&record, between, Window { start: 0, end: 300 })?, None);
 //! # Ok::<(), Refusal>(())
 //! ```
 #![deny(unsafe_code)]
@@ -28,15 +40,17 @@
 mod aging;
 mod fix;
 pub mod interface;
+mod kind;
 mod questions;
 mod record;
 mod refusal;
 mod unit;
 
 pub use aging::{age, age_by_days, run, Aging};
-pub use fix::{Fix, Fixes, InUnit, MillimetreFix};
+pub use fix::{AnyFix, Fix, Fixes, MillimetreFix, OfKind, SilenceFix};
+pub use kind::{of_every_kind, Kind};
 pub use questions::{crosses, crosses_after, place, Area, Crossing, Moment, Place, Window};
-pub use record::{check, claimed_count, claimed_unit, fixes, list, write, write_into};
+pub use record::{check, claimed_count, claimed_kind, fixes, list, write, write_into};
 pub use record::{Head, LONGEST};
 pub use refusal::Refusal;
-pub use unit::{in_threes, of_both_units, Limits, Unit};
+pub use unit::{in_threes, Limits, Unit};

@@ -52,9 +52,9 @@ pub struct Window {
 
 /// The earliest time at which a cart was in a box: numerator / denominator seconds after the first fix.
 ///
-/// The fraction isn't reduced: its denominator is 1, or how far, in the record's unit, the cart goes along an axis from
-/// one fix to the next. Two crossings are equal if their values are. A trail and its window moved by the same seconds
-/// have the same numerator and denominator.
+/// The fraction isn't reduced: its denominator is 1, as always at an end of a silence, or how far, in the record's
+/// unit, the cart goes along an axis from one fix to the next. Two crossings are equal if their values are. A trail and
+/// its window moved by the same seconds have the same numerator and denominator.
 #[derive(Clone, Copy, Debug)]
 pub struct Crossing {
     /// Seconds times the denominator.
@@ -70,7 +70,8 @@ impl PartialEq for Crossing {
     }
 }
 
-/// Where the cart was at a moment. Makes checks 1 to 9, 11 and 12.
+/// Where the cart was at a moment. Inside a silence nobody knows; at both its ends it is told. Makes checks 1 to 9, 20,
+/// 11, 12 and 21.
 pub fn place(record: &[u8], moment: Moment) -> Result<Place, Refusal> {
     let found = interface::place(record, moment.second, moment.thousandths);
     Refusal::none_in(found.refusal)?;
@@ -104,14 +105,14 @@ fn told(answer: interface::Crossing) -> Result<Option<Crossing>, Refusal> {
     }))
 }
 
-/// Whether the cart was in the box at some time of the window, fractions of seconds too, and when first. Makes
-/// checks 1 to 9, 13 and 14.
+/// Whether the cart was in the box at some time of the window, fractions of seconds too, and when first. Of a silence
+/// only its two ends count. Makes checks 1 to 9, 20, 13 and 14.
 pub fn crosses(record: &[u8], area: Area, window: Window) -> Result<Option<Crossing>, Refusal> {
     told(interface::crosses(record, asked(area, window)))
 }
 
-/// Makes all agings of a list, as `run` does, and then asks `crosses` of what is left. Makes checks 1 to 9, 13 and 14
-/// first, and where one fails makes no aging. STACK: as `age`.
+/// Makes all agings of a list, as `run` does, and then asks `crosses` of what is left. Makes checks 1 to 9, 20, 13 and
+/// 14 first, and where one fails makes no aging. STACK: as `age`.
 pub fn crosses_after(
     record: &mut [u8],
     list: &[Aging],

@@ -1,17 +1,18 @@
-//! What is turned away, in document 01's words.
+//! What is turned away, in the documents' words.
 
 use std::fmt;
 
 use crate::interface::Answer;
-use crate::unit::{in_threes, of_both_units, Unit};
+use crate::kind::{of_every_kind, Kind};
+use crate::unit::in_threes;
 
-/// Why a call was turned away. A refused call leaves all lent bytes as they were. What has a limit here has it in
-/// centimetres; `sentence` says each with the limits of a record's own unit.
+/// Why a call was turned away, in the order in which a call makes its checks. A refused call leaves all lent bytes as
+/// they were. What has a limit here has that of kind 1; `sentence` says each with the limits of a record's own kind.
 #[derive(Clone, Copy, Debug, PartialEq, Eq, Hash)]
 pub enum Refusal {
     /// 1: the lent bytes are fewer than 10.
     FewBytes,
-    /// 2: the kind is neither 1 nor 2.
+    /// 2: the kind isn't 1, 2 or 3.
     OtherKind,
     /// 3: the count is 0 or above 4,096.
     BadCount,
@@ -27,85 +28,111 @@ pub enum Refusal {
     Unordered,
     /// 9: the last time less the first is above 65,535.
     LongSpan,
+    /// 20: a silence byte is neither 0 nor 1, or the last fix has 1.
+    BadSilence,
     /// 10: the asked tolerance is above 32,000.
     HighTolerance,
     /// 11: the asked thousandths are above 999.
     BadThousandths,
     /// 12: the asked moment is before the first fix or after the last.
     BadMoment,
+    /// 21: the moment is strictly inside a silence.
+    InSilence,
     /// 13: the window's end is before its start, or either is outside the trail's times.
     BadWindow,
     /// 14: a box edge is outside −16,000 to 16,000, or a low edge is above its high edge.
     BadBox,
     /// 15: the output has fewer than 10 + 8n bytes.
     ShortOutput,
-    /// A number that isn't document 01's. Only an archive of another version could answer it.
+    /// A number that isn't the documents'. Only an archive of another version could answer it.
     Unknown(u32),
 }
 
-/// The fifteen, in checking order, each with its sentence, in which the names of `LIMITS` stand for a unit's numbers.
-const SENTENCES: [(Refusal, &str); 15] = [
-    (Refusal::FewBytes, "The lent bytes are fewer than 10."),
-    (Refusal::OtherKind, "The kind is neither 1 nor 2."),
-    (Refusal::BadCount, "The count is 0 or above 4,096."),
+/// The seventeen, in checking order, each with its number and its sentence, in which the names of `LIMITS` stand for a
+/// kind's numbers.
+const SENTENCES: [(u32, Refusal, &str); 17] = [
+    (1, Refusal::FewBytes, "The lent bytes are fewer than 10."),
+    (2, Refusal::OtherKind, "The kind isn't 1, 2 or 3."),
+    (3, Refusal::BadCount, "The count is 0 or above 4,096."),
     (
+        4,
         Refusal::BadLength,
         "The length field isn't 10 + {fix} times the count.",
     ),
     (
+        5,
         Refusal::ShortRecord,
         "The lent bytes are fewer than the length field.",
     ),
     (
+        6,
         Refusal::BadMark,
         "The mark is above {tolerance} and isn't 65,535.",
     ),
-    (Refusal::Misplaced, "Some x or y is outside {places}."),
+    (7, Refusal::Misplaced, "Some x or y is outside {places}."),
     (
+        8,
         Refusal::Unordered,
         "Some fix's time isn't later than the time before it.",
     ),
     (
+        9,
         Refusal::LongSpan,
         "The last time less the first is above 65,535.",
     ),
     (
+        20,
+        Refusal::BadSilence,
+        "A silence byte is neither 0 nor 1, or the last fix has 1.",
+    ),
+    (
+        10,
         Refusal::HighTolerance,
         "The asked tolerance is above {tolerance}.",
     ),
     (
+        11,
         Refusal::BadThousandths,
         "The asked thousandths are above 999.",
     ),
     (
+        12,
         Refusal::BadMoment,
         "The asked moment is before the first fix or after the last.",
     ),
     (
+        21,
+        Refusal::InSilence,
+        "The moment is strictly inside a silence.",
+    ),
+    (
+        13,
         Refusal::BadWindow,
         "The window's end is before its start, or either is outside the trail's times.",
     ),
     (
+        14,
         Refusal::BadBox,
         "A box edge is outside {places}, or a low edge is above its high edge.",
     ),
     (
+        15,
         Refusal::ShortOutput,
         "The output has fewer than {length} bytes.",
     ),
 ];
 
-/// A number that each unit has for itself, as sentences have it.
-type Limit = fn(Unit) -> String;
+/// A number that each kind has for itself, as sentences have it.
+type Limit = fn(Kind) -> String;
 
 const LIMITS: [(&str, Limit); 4] = [
-    ("{fix}", |unit| unit.limits().fix_bytes.to_string()),
-    ("{length}", |unit| {
-        format!("10 + {}n", unit.limits().fix_bytes)
+    ("{fix}", |kind| kind.fix_bytes().to_string()),
+    ("{length}", |kind| format!("10 + {}n", kind.fix_bytes())),
+    ("{tolerance}", |kind| {
+        in_threes(kind.unit().limits().tolerance)
     }),
-    ("{tolerance}", |unit| in_threes(unit.limits().tolerance)),
-    ("{places}", |unit| {
-        let most = in_threes(unit.limits().place.unsigned_abs());
+    ("{places}", |kind| {
+        let most = in_threes(kind.unit().limits().place.unsigned_abs());
         format!("−{most} to {most}")
     }),
 ];
@@ -119,27 +146,30 @@ impl Refusal {
         }
     }
 
-    /// The refusal that has this number in document 01.
+    /// The refusal that has this number in the documents.
     pub fn from_number(number: u32) -> Refusal {
-        let known = (1..).zip(SENTENCES).find(|(k, _)| *k == number);
-        known.map_or(Refusal::Unknown(number), |(_, (refusal, _))| refusal)
+        let known = SENTENCES.iter().find(|(of, ..)| *of == number);
+        known.map_or(Refusal::Unknown(number), |(_, refusal, _)| *refusal)
     }
 
-    /// Its number in document 01, from 1 to 15.
+    /// Its number in the documents: 1 to 15 in document 01, 20 and 21 in document 02.
     pub fn number(self) -> u32 {
         match self {
             Refusal::Unknown(number) => number,
-            known => (1..)
-                .zip(SENTENCES)
-                .find(|(_, (refusal, _))| *refusal == known)
-                .map_or(0, |(number, _)| number),
+            known => {
+                let mut all = SENTENCES.iter();
+                let found = all.find(|(_, refusal, _)| *refusal == known);
+                found.map_or(0, |(number, ..)| *number)
+            }
         }
     }
 
     /// Its sentence, with the numbers that `told` has for each limit.
     fn with(self, told: impl Fn(Limit) -> String) -> String {
-        let known = SENTENCES.iter().find(|(refusal, _)| *refusal == self);
-        let sentence = known.map_or("The number isn't document 01's.", |(_, sentence)| sentence);
+        let known = SENTENCES.iter().find(|(_, refusal, _)| *refusal == self);
+        let sentence = known.map_or("The number isn't the documents'.", |(.., sentence)| {
+            sentence
+        });
         LIMITS
             .iter()
             .fold(sentence.to_string(), |sentence, (name, limit)| {
@@ -147,10 +177,9 @@ impl Refusal {
             })
     }
 
-    /// Its sentence about records in this unit. About those in centimetres it is document 01's, which had no other kind
-    /// yet.
-    pub fn sentence(self, unit: Unit) -> String {
-        self.with(|limit| limit(unit))
+    /// Its sentence about records of this kind. About those of kind 1 it is document 01's, which had no other kind yet.
+    pub fn sentence(self, kind: Kind) -> String {
+        self.with(|limit| limit(kind))
     }
 }
 
@@ -160,10 +189,10 @@ pub(crate) fn value(answer: Answer) -> Result<u32, Refusal> {
     Ok(answer.value)
 }
 
-/// For who doesn't know the record's unit: the sentence with the numbers of both.
+/// For who doesn't know the record's kind: the sentence with the numbers of all.
 impl fmt::Display for Refusal {
     fn fmt(&self, to: &mut fmt::Formatter) -> fmt::Result {
-        to.write_str(&self.with(of_both_units))
+        to.write_str(&self.with(of_every_kind))
     }
 }
 
@@ -171,15 +200,16 @@ impl std::error::Error for Refusal {}
 
 #[cfg(test)]
 mod tests {
-    use super::{Refusal, Unit};
+    use super::{Kind, Refusal};
 
     #[test]
     fn numbers_lead_to_refusals_and_back() {
         for number in (1..=100).chain([u32::MAX]) {
             let refusal = Refusal::from_number(number);
             assert_eq!(refusal.number(), number);
-            assert_eq!(matches!(refusal, Refusal::Unknown(_)), number > 15);
-            let sentences = Unit::ALL.map(|unit| refusal.sentence(unit));
+            let known = matches!(number, 1..=15 | 20 | 21);
+            assert_eq!(matches!(refusal, Refusal::Unknown(_)), !known);
+            let sentences = Kind::ALL.map(|kind| refusal.sentence(kind));
             for sentence in sentences.into_iter().chain([refusal.to_string()]) {
                 assert!(sentence.ends_with('.') && !sentence.contains(['{', '}']));
             }
@@ -193,13 +223,15 @@ mod tests {
         assert_eq!(Refusal::Unordered.number(), 8);
         assert_eq!(Refusal::HighTolerance.number(), 10);
         assert_eq!(Refusal::ShortOutput.number(), 15);
+        assert_eq!(Refusal::BadSilence.number(), 20);
+        assert_eq!(Refusal::InSilence.number(), 21);
     }
 
     #[test]
-    fn sentences_have_the_numbers_of_the_unit_or_of_both() {
+    fn sentences_have_the_numbers_of_the_kind_or_of_all() {
         let all = |refusal: Refusal| {
-            let [one, other] = Unit::ALL.map(|unit| refusal.sentence(unit));
-            [one, other, refusal.to_string()]
+            let [one, other, third] = Kind::ALL.map(|kind| refusal.sentence(kind));
+            [one, other, third, refusal.to_string()]
         };
         let places = "Some x or y is outside";
         assert_eq!(
@@ -207,6 +239,7 @@ mod tests {
             [
                 format!("{places} −16,000 to 16,000."),
                 format!("{places} −160,000 to 160,000."),
+                format!("{places} −16,000 to 16,000."),
                 format!("{places} −16,000 to 16,000 (in millimetres −160,000 to 160,000)."),
             ]
         );
@@ -215,12 +248,15 @@ mod tests {
             [
                 "The length field isn't 10 + 8 times the count.",
                 "The length field isn't 10 + 12 times the count.",
-                "The length field isn't 10 + 8 (in millimetres 12) times the count.",
+                "The length field isn't 10 + 9 times the count.",
+                "The length field isn't 10 + 8 (in millimetres 12, with silences 9) times the count.",
             ]
         );
-        let both = "The output has fewer than 10 + 8n (in millimetres 10 + 12n) bytes.";
-        assert_eq!(Refusal::ShortOutput.to_string(), both);
-        let of_none = "The kind is neither 1 nor 2.";
-        assert_eq!(all(Refusal::OtherKind), [of_none; 3]);
+        assert_eq!(
+            Refusal::ShortOutput.to_string(),
+            "The output has fewer than 10 + 8n (in millimetres 10 + 12n, with silences 10 + 9n) bytes."
+        );
+        let of_none = "The kind isn't 1, 2 or 3.";
+        assert_eq!(all(Refusal::OtherKind), [of_none; 4]);
     }
 }

@@ -1,23 +1,19 @@
-//! The two units that a record's lengths may be in, with the numbers of each.
+//! The two units that a record's lengths may be in, with the limits of each.
 
 use std::fmt;
 
 /// The unit of a record's lengths: of its places and its mark, and of the tolerances and boxes that it is asked with.
 #[derive(Clone, Copy, Debug, PartialEq, Eq, Hash)]
 pub enum Unit {
-    /// Records of kind 1.
+    /// Of records of kinds 1 and 3.
     Centimetres,
-    /// Records of kind 2.
+    /// Of records of kind 2.
     Millimetres,
 }
 
-/// What the records of a unit have, all lengths in that unit.
+/// What lengths may be, in their unit.
 #[derive(Clone, Copy, Debug, PartialEq, Eq)]
 pub struct Limits {
-    /// What their kind field has.
-    pub kind: u16,
-    /// The bytes of each fix.
-    pub fix_bytes: usize,
     /// How far from 0 an x, a y and a box's edge may be.
     pub place: i32,
     /// The greatest tolerance, and the greatest mark.
@@ -34,27 +30,16 @@ impl Unit {
     pub const fn limits(self) -> Limits {
         match self {
             Unit::Centimetres => Limits {
-                kind: 1,
-                fix_bytes: 8,
                 place: 16_000,
                 tolerance: 32_000,
                 per_centimetre: 1,
             },
             Unit::Millimetres => Limits {
-                kind: 2,
-                fix_bytes: 12,
                 place: 160_000,
                 tolerance: 60_000,
                 per_centimetre: 10,
             },
         }
-    }
-
-    /// The unit of the records of this kind, if there is such a kind.
-    pub fn of_kind(kind: impl Into<u32>) -> Option<Unit> {
-        let kind = kind.into();
-        let mut all = Unit::ALL.into_iter();
-        all.find(|unit| u32::from(unit.limits().kind) == kind)
     }
 
     /// As it stands after a number: `cm` or `mm`.
@@ -75,12 +60,6 @@ impl fmt::Display for Unit {
     }
 }
 
-/// What each unit has for itself, put for who doesn't know the unit: `32,000 (in millimetres 60,000)`.
-pub fn of_both_units(limit: impl Fn(Unit) -> String) -> String {
-    let [one, other] = [Unit::Centimetres, Unit::Millimetres].map(limit);
-    format!("{one} (in millimetres {other})")
-}
-
 /// A whole number as document 01 writes it, with its digits in threes.
 pub fn in_threes(number: impl Into<u64>) -> String {
     let digits = number.into().to_string();
@@ -96,16 +75,7 @@ pub fn in_threes(number: impl Into<u64>) -> String {
 
 #[cfg(test)]
 mod tests {
-    use super::{in_threes, Unit};
-
-    #[test]
-    fn kinds_lead_to_units_and_back() {
-        for kind in (0..=300_u32).chain([65_535, 65_537, u32::MAX]) {
-            let unit = Unit::of_kind(kind);
-            let back = unit.map(|unit| u32::from(unit.limits().kind));
-            assert_eq!(back, Some(kind).filter(|kind| (1..=2).contains(kind)));
-        }
-    }
+    use super::in_threes;
 
     #[test]
     fn numbers_stand_in_threes() {

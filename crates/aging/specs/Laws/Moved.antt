@@ -8,6 +8,7 @@ use lib.IntN.{ℤ, pos, negsuc}
 use lib.ListN.{length, length-map}
 use Rattle.distance.specs.Fix.{Fix}
 use Rattle.distance.specs.Distance.{deviation, allowance}
+use Rattle.distance.specs.Silence.{silent}
 use Rattle.distance.specs.Clock.{moved-fix}
 use Rattle.distance.specs.Laws.All.{all-none, all-more}
 use Rattle.distance.specs.Laws.Clock.{deviation-later, allowance-later, fixes-earlier-again}
@@ -35,7 +36,7 @@ use Rattle.aging.specs.Laws.Step.{thins, step, left-refused, left-accept
 -- ---- a list of fixes, all k seconds later
 thinning-later : (k e : ℕ) (l : List Fix) → thinning e (map (moved-fix (pos k)) l) ≡ mapped (moved-fix (pos k)) (thinning e l)
 unfolding thinning
-thinning-later k e l = thin-mapped (moved-fix (pos k)) deviation allowance (deviation-later k) (allowance-later k) e l
+thinning-later k e l = thin-mapped (moved-fix (pos k)) deviation allowance (deviation-later k) (allowance-later k) e silent (λ i. refl) l
 
 -- ---- a record c that is b with every fix k seconds later
 module _ (k : ℕ) (b c : List ℕ) (l : Later k b c) where
@@ -96,8 +97,8 @@ module _ (k : ℕ) (b c : List ℕ) (l : Later k b c) where
         go (some n) x = rw (left-refused b n q x, left-refused c n q (read-later ∙ x)) l
         go none x = rw (step b q (record { accepted = x }), step c q (record { accepted = read-later ∙ x }), same-kind) (at-tolerance (applies (kind-of b) q) refl (record { accepted = x }))
 
--- ---- THE LAW. Of all lent bytes and every call, and for every s, later or earlier, that keeps each time of the record in 32 bits, unless one of checks 1 to 6 turns
--- the bytes away. c is b moved.
+-- ---- THE LAW. Of all lent bytes and every call, and for every s, later or earlier, that keeps each time of the record in 32 bits, unless one of checks 1 to 6
+-- turns the bytes away. c is b moved.
 pub record AgedAlike (s : ℤ) (b c : List ℕ) (q : Call) : Type 0 where
   -- the count, or the refusal
   pub same-answer : answered c q ≡ answered b q

@@ -23,7 +23,7 @@ module _ (K : Kind) (is : IsKind K) where
   fix-beyond b l k h =
       let at = record-length K k in
       let w = K .width in
-      rw (number-beyond b 10 l at 4 (omega arith), number-beyond b 10 l (at + 4) w (omega arith), number-beyond b 10 l (at + 4 + w) w (omega arith)) refl
+      rw (number-beyond b 10 l at 4 (omega arith), number-beyond b 10 l (at + 4) w (omega arith), number-beyond b 10 l (at + 4 + w) w (omega arith), number-beyond b 10 l (at + 4 + w + w) (K .silence-width) (omega arith)) refl
 
 -- ---- the loop: of the first i fixes those that are marked are stored, w of them
 pub record Packed (K : Kind) (b₀ : List ℕ) (marks : List Bool) (i : ℕ) (b : List ℕ) (w : ℕ) : Type 0 where

@@ -11,35 +11,41 @@ use lib.ListN.{length, drop, length-append, length-drop}
 use lib.Seq.{drop-at}
 use borrow.Author.Tests.{eq-eqb, ne-eqb, le-leb, lt-leb}
 use Rattle.distance.specs.Fix.{Fix}
-use Rattle.distance.specs.Laws.All.{All, all-append, all-drop}
+use Rattle.distance.specs.Distance.{deviation, allowance}
+use Rattle.distance.specs.Silence.{silent}
+use Rattle.distance.specs.Laws.All.{All, all-append, all-drop, all-map}
 use Rattle.distance.specs.Integers.Tests.{Test, holds, fails, test}
 use Rattle.format.specs.declared.Kind.{Kind as CodeKind}
 use Rattle.format.specs.Kinds.{Kind, layout}
 use Rattle.format.specs.Format.{kind-of, record-length, mark-field, count-field, fixes, fix-at, record-bytes}
 use Rattle.format.specs.Laws.Kinds.{of-code, is-kind, kind-of-is, is-coded, longer}
-use Rattle.record.specs.Checks.{IsAccepted, read-refusal, too-long, of-ends}
+use Rattle.record.specs.Checks.{IsAccepted, read-refusal, too-long, last-silent, of-ends}
 use Rattle.record.specs.Answers.{Answer, gives, turns-away}
 use Rattle.format.specs.Laws.Each.{length-each}
 use Rattle.format.specs.Laws.Layout.{length-record}
 use Rattle.format.specs.Laws.RoundTrip.{AreBytes, InRange, read-record, bytes-in-range, record-are-bytes}
-use Rattle.record.specs.Laws.Accepted.{GoodMark, mark-applied, mark-never-applied, GoodFixes, accepted-good, accept, places-good, good-places, times-good, good-times}
-use Rattle.thinning.specs.Thinning.{thinned}
+use Rattle.record.specs.Laws.Accepted.{GoodMark, mark-applied, mark-never-applied, GoodFixes, accepted-good, accept, places-good, good-places, times-good, good-times, silences-good, good-silences}
+use Rattle.thinning.specs.Thinning.{thin, thinning, thinned}
 use Rattle.aging.specs.Aging.{Call, by-tolerance, by-days, left-by, answered, age-answer, aged, aged-by-days, days-give, in-unit, days-apply, new-mark, thinned-record, record-at, applies}
-use Rattle.thinning.specs.Laws.Trail.{kept-all, kept-rising, ends-stay, SameEnds, no-fixes, same-ends, no-more}
+use Rattle.thinning.specs.Laws.Kept.{SameEnds, no-fixes, same-ends}
+use Rattle.thinning.specs.Laws.Trail.{kept-all, kept-rising, ends-stay, no-more, never-silent}
 use Rattle.aging.specs.Laws.Aging.{age-reader, age-none, age-10, age-refused, age-done, days-refused, days-done}
 use Rattle.record.specs.Laws.First.{some-none}
+use Rattle.record.specs.Laws.Silence.{NoSilence, no-silence}
 
--- ---- the kept fixes are good: within the limits, in order, and no longer than before
-kept-short : {l k : List Fix} → SameEnds l k → of-ends too-long l ≡ false → of-ends too-long k ≡ false
+-- ---- the kept fixes are good: within the limits, in order, no longer than before, and with the silences that they had
+pub ends-same : (test : Fix → Fix → Bool) {l k : List Fix} → SameEnds l k → of-ends test k ≡ of-ends test l
 unfolding of-ends
-kept-short no-fixes h = h
-kept-short (same-ends e) h = rw e h
+ends-same test no-fixes = refl
+ends-same test (same-ends {i} h) = ap (test i) h
 
 pub kept-good : {limit : ℕ} (e : ℕ) (l : List Fix) → GoodFixes limit l → GoodFixes limit (thinned e l)
 kept-good {limit} e l g = record {
   inside = good-places limit (kept-all e l (places-good limit l (g .inside)));
   ordered = good-times (kept-rising e l (times-good l (g .ordered)));
-  short = kept-short (ends-stay e l) (g .short);
+  short = ends-same too-long (ends-stay e l) ∙ g .short;
+  known-silences = good-silences (kept-all e l (silences-good l (g .known-silences)));
+  heard-last = ends-same last-silent (ends-stay e l) ∙ g .heard-last;
 }
 
 kept-some : {l k : List Fix} → SameEnds l k → 1 ≤ length l → 1 ≤ length k
@@ -99,6 +105,13 @@ thins-as κ b e kind bytes a h =
 
 pub thins : (b : List ℕ) (e : ℕ) → AreBytes b → IsAccepted b → e ≤ kind-of b .top → ThinnedTo b e (thinned-record b e)
 thins b e = let k = of-code b in thins-as (k .code-kind) b e (k .is)
+
+-- ---- RECORDS WITHOUT SILENCES are thinned as one stretch, which is Douglas-Peucker of the whole trail, word for word as document 01 has it
+not-silent : (f : Fix) → NoSilence f → silent f ≡ false
+not-silent f h = rw h refl
+
+pub thinned-as-one : (b : List ℕ) (e : ℕ) → kind-of b .silence-width ≡ 0 → thinning e (fixes b) ≡ thin deviation allowance e (fixes b)
+thinned-as-one b e h = never-silent e (fixes b) (all-map not-silent (no-silence b h))
 
 -- ---- no tolerance that days apply is above the limit
 days-low : (K : Kind) (d e : ℕ) → days-apply K d ≡ some e → e ≤ K .top

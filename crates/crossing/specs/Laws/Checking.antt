@@ -1,4 +1,4 @@
--- The crossing's checks 1 to 9, 13 and 14, and what it gives when none of them turns the call away.
+-- The crossing's checks, and what it gives when none of them turns the call away.
 use mathlib.Core.Path.{_≡_, refl, sym, _∙_, ap}
 use mathlib.Core.Bool.{Bool, true, false, _||_}
 use mathlib.Core.List.{List, [], _∷_, _++_}
@@ -18,7 +18,8 @@ use Rattle.format.specs.Laws.Kinds.{kind-of-is}
 use Rattle.record.specs.Checks.{Check, bad-window, bad-box, first, sentence, head-checks, fix-checks, read-refusal, IsAccepted, crossing, checks, outside, second-outside}
 use Rattle.record.specs.Answers.{Answer, gives, turns-away, answer}
 use Rattle.record.specs.Laws.First.{stops, passes, first-none, some-first, none-first, none-front, none-holds, NoneHolds, no-check, and-not, reading-alone, first-exactly}
-use Rattle.record.specs.Laws.Head.{asks, neither}
+use Rattle.distance.specs.Integers.Tests.{neither}
+use Rattle.record.specs.Laws.Head.{asks}
 use Rattle.record.specs.Laws.Accepted.{accepted-good}
 use Rattle.legs.specs.declared.Fraction.{Fraction}
 use Rattle.legs.specs.Legs.{framed}
@@ -60,7 +61,7 @@ module _ (b : List ℕ) (s e : ℕ) (box : Box) where
   abbrev pub asks-crossing : Check → Bool
   asks-crossing = asks b (asked-crossing s e box)
 
-  -- one of checks 1 to 9 turns the bytes away
+  -- one of the reader's checks turns the bytes away
   pub cross-refused : (k : ℕ) → read-refusal b ≡ some k → cross-refusal b s e box ≡ some k
   cross-refused k h = some-first asks-crossing (head-checks ++ fix-checks) own-checks k (reading-alone b (asked-crossing s e box) ∙ h)
 

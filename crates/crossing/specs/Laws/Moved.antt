@@ -1,11 +1,13 @@
 -- A TRAIL AND ITS WINDOW MOVED BY THE SAME SECONDS GET THE SAME ANSWER: the refusal, yes or no, and the numerator and the denominator.
 use mathlib.Core.Path.{_≡_, refl, ap}
+use mathlib.Core.Bool.{Bool, true, false, cond}
 use mathlib.Core.List.{List, [], _∷_, map}
 use mathlib.Core.Option.{none}
 use Prim.Native.Nat.{ℕ, _+_, _-_}
 use native.Mathlib.Omega.{arith}
 use lib.IntN.{ℤ, pos}
 use Rattle.distance.specs.Fix.{Fix}
+use Rattle.distance.specs.Silence.{silent}
 use Rattle.distance.specs.Box.{Box}
 use Rattle.distance.specs.Clock.{moved, Stays, moved-fix}
 use Rattle.distance.specs.Laws.All.{All, all-none, all-more}
@@ -21,7 +23,7 @@ use Rattle.record.specs.Laws.Changed.{ends-changed}
 use Rattle.record.specs.Laws.Moved.{Later, accepted-later, either-way, later-refusal}
 use Rattle.legs.specs.declared.Frame.{Frame}
 use Rattle.legs.specs.Legs.{raised, framed}
-use Rattle.crossing.specs.Crossing.{first-from, first-crossing, asked-crossing, cross-refusal, cross-answer}
+use Rattle.crossing.specs.Crossing.{followed, first-from, first-crossing, asked-crossing, cross-refusal, cross-answer}
 use Rattle.crossing.specs.Laws.Search.{edges-outside}
 use Rattle.crossing.specs.Laws.Checking.{asks-crossing, own-checks, cross-passed}
 
@@ -30,10 +32,17 @@ module _ (k : ℕ) where
   raised-later : (z : ℕ) (a : Fix) → raised (z + k) (moved-fix (pos k) a) ≡ raised z a
   raised-later z a = let e : a .t + k - (z + k) ≡ a .t - z = omega arith in rw e refl
 
+  followed-later : (a b : Fix) → followed (moved-fix (pos k) a) (moved-fix (pos k) b) ≡ moved-fix (pos k) (followed a b)
+  followed-later a b = go (silent a)
+    where
+      go : (t : Bool) → cond t (moved-fix (pos k) a) (moved-fix (pos k) b) ≡ moved-fix (pos k) (cond t a b)
+      go true = refl
+      go false = refl
+
   first-from-later : (z : ℕ) (a : Fix) (l : List Fix) (f : Frame) (w v : ℕ) → first-from (z + k) (moved-fix (pos k) a) (map (moved-fix (pos k)) l) f w v ≡ first-from z a l f w v
   unfolding first-from
   first-from-later z a [] f w v = rw (raised-later z a) refl
-  first-from-later z a (b ∷ l) f w v = rw (raised-later z a, raised-later z b, first-from-later z b l f w v) refl
+  first-from-later z a (b ∷ l) f w v = rw (followed-later a b, raised-later z a, raised-later z (followed a b), first-from-later z b l f w v) refl
 
   crossing-later : (l : List Fix) (box : Box) (s e : ℕ) → first-crossing (map (moved-fix (pos k)) l) box (s + k) (e + k) ≡ first-crossing l box s e
   unfolding first-crossing
@@ -66,7 +75,7 @@ module _ (k : ℕ) (b c : List ℕ) (l : Later k b c) (s e : ℕ) (box : Box) wh
   cross-answer-later = rw same-refusal (answer-same (cross-refusal b s e box) (λ x. rw (accepted-later l (cross-passed b s e box x .is-accepted)) (crossing-later k (fixes b) box s e)))
 
 -- ---- THE LAW. Of all lent bytes, and for every s, later or earlier, that keeps both ends of the window and, unless one of checks 1 to 6 turns the bytes away, each
--- time of the record in 32 bits. What 1 to 6 turn away they turn away again, since no byte of the head is moved; and what is turned away by 7, 8, 9, 13 or 14,
+-- time of the record in 32 bits. What 1 to 6 turn away they turn away again, since no byte of the head is moved; and what is turned away by 7, 8, 9, 20, 13 or 14,
 -- since no place is, and every two seconds are in the same order and as far apart as before.
 pub cross-answer-moved : (s : ℤ) (b : List ℕ) → AreBytes b → Movable s b → (start end : ℕ) (box : Box) → Stays s start → Stays s end
     → cross-answer (moved-record s b) (moved s start) (moved s end) box ≡ cross-answer b start end box

@@ -1,6 +1,6 @@
 -- The search along a record's fixes for the first leg that crosses.
 use mathlib.Core.Path.{_≡_, refl, _∙_}
-use mathlib.Core.Bool.{Bool, _||_}
+use mathlib.Core.Bool.{Bool, true, false, cond, _||_}
 use mathlib.Core.List.{List, _∷_}
 use mathlib.Core.Option.{some, none}
 use Prim.Native.Nat.{ℕ, _+_, _-_, _≤_, _<_}
@@ -20,6 +20,7 @@ use Rattle.legs.specs.Legs.{leg-first, raised}
 use Rattle.crossing.specs.Crossing.{or-else, first-from}
 use Rattle.record.specs.Laws.Trail.{CheckedTrail, from, from-next, from-end, next, leg-of, first-bounded, last-after, accepted-widest, lent}
 use Rattle.distance.specs.Fix.{Fix, widest, last-of}
+use Rattle.distance.specs.Silence.{silent}
 
 -- ---- the checks of a window and of a box, of the trail's first and last time
 abbrev pub time-outside : (s first last : ℕ) → Bool
@@ -37,6 +38,11 @@ pub record Seekable (K : Kind) (b : List ℕ) (n : ℕ) (f : Frame) : Type 0 whe
   pub kind : K ≡ kind-of b
   pub count : n ≡ count-field b
   pub frame : LowFrame f
+
+-- either of two fixes, raised
+raised-either : (z : ℕ) (t : Bool) (a b : Fix) → raised z (cond t a b) ≡ cond t (raised z a) (raised z b)
+raised-either z true a b = refl
+raised-either z false a b = refl
 
 -- what is left of the search: a is the fix before position k
 pub record Seek (K : Kind) (b : List ℕ) (n : ℕ) (f : Frame) (w v : ℕ) (a : Raised) (k : ℕ) : Type 0 where
@@ -84,20 +90,24 @@ module _ {K : Kind} {b : List ℕ} {n : ℕ} {f : Frame} {w v : ℕ} {a : Raised
         record { from = omega (arith, g .rises, x .base); to = omega (arith, last-ahead, last-after (fix k) (from fix (k + 1) n) (next _ _ _ ahead .after)); bounded = g .bounded-b }
 
     module _ {r : Raised} (e : r ≡ raised ((fix-at K b 0) .t) (fix-at K b k)) where
-      pub seek-leg : LegFits a r f
-      seek-leg =
+      pub seek-leg : {q : Raised} → q ≡ cond (silent (fix-at K b (k - 1))) a r → LegFits a q f
+      seek-leg {q} s =
           let g = leg-of _ _ _ ahead in
-          record { order = rw (x .here, e) (omega (arith, g .rises)); start = low; end = rw e (low-raised z (fix k) (g .bounded-b)); frame = x .frame }
+          rw s (go (silent (fix (k - 1))) (record { order = rw (x .here, e) (omega (arith, g .rises)); start = low; end = rw e (low-raised z (fix k) (g .bounded-b)); frame = x .frame }))
+        where
+          go : (t : Bool) → LegFits a r f → LegFits a (cond t a r) f
+          go true fits = record { order = omega arith; start = low; end = low; frame = x .frame }
+          go false fits = fits
 
-      step : first-from z (fix (k - 1)) (from fix k n) f w v ≡ or-else (leg-first a r f w v) (first-from z (fix k) (from fix (k + 1) n) f w v)
+      step : first-from z (fix (k - 1)) (from fix k n) f w v ≡ or-else (leg-first a (cond (silent (fix (k - 1))) a r) f w v) (first-from z (fix k) (from fix (k + 1) n) f w v)
       unfolding first-from
-      step = rw (from-next fix k n h, x .here, e) refl
+      step = rw (from-next fix k n h, x .here, e, raised-either z (silent (fix (k - 1))) (fix (k - 1)) (fix k)) refl
 
-      pub seek-found : (o : Fraction) → leg-first a r f w v ≡ some o → first-from ((fix-at K b 0) .t) (fix-at K b 0) (from (fix-at K b) 1 n) f w v ≡ some o
-      seek-found o g = x .left ∙ step ∙ rw g refl
+      pub seek-found : (o : Fraction) → {q : Raised} → q ≡ cond (silent (fix-at K b (k - 1))) a r → leg-first a q f w v ≡ some o → first-from ((fix-at K b 0) .t) (fix-at K b 0) (from (fix-at K b) 1 n) f w v ≡ some o
+      seek-found o s g = x .left ∙ step ∙ rw (← s, g) refl
 
-      pub seek-next : leg-first a r f w v ≡ none → Seek K b n f w v r (k + 1)
-      seek-next g =
+      pub seek-next : {q : Raised} → q ≡ cond (silent (fix-at K b (k - 1))) a r → leg-first a q f w v ≡ none → Seek K b n f w v r (k + 1)
+      seek-next s g =
           let m : k + 1 - 1 ≡ k = omega arith in
           record {
             some = omega arith;
@@ -107,8 +117,12 @@ module _ {K : Kind} {b : List ℕ} {n : ℕ} {f : Frame} {w v : ℕ} {a : Raised
             checked = rw m (next _ _ _ ahead);
             base = rw m (seek-reach .from);
             last = rw m last-ahead;
-            left = rw m (x .left ∙ step ∙ rw g refl);
+            left = rw m (x .left ∙ step ∙ rw (← s, g) refl);
           }
+
+  -- the fix before position k has its bytes
+  pub before-within : k - 1 < n
+  before-within = omega (arith, x .some, x .few)
 
   pub seek-last : LegFits a a f
   seek-last = record { order = omega arith; start = low; end = low; frame = x .frame }

@@ -11,6 +11,8 @@ use Rattle.distance.specs.Box.{Box}
 use Rattle.distance.specs.Tenfold.{tenfold-fix, tenfold-box}
 use Rattle.distance.specs.Laws.All.{all-none, all-more}
 use Rattle.distance.specs.Laws.Tenfold.{place-scaled, in-scaled}
+use Rattle.distance.specs.Silence.{in-silence}
+use Rattle.distance.specs.Laws.Silence.{silence-changed}
 use Rattle.distance.specs.Integers.Order.{ltZ-times}
 use Rattle.format.specs.Kinds.{Kind, trail, millimetre-trail}
 use Rattle.format.specs.Format.{kind-of, fixes}
@@ -55,7 +57,10 @@ crosses-tenfold : (l : List Fix) (box : Box) (s e : ℕ) (u : Time) → Crosses 
 crosses-tenfold l box s e u =
     let z = place-scaled 10 u l in
     let i = in-scaled 10 (omega arith) box (place l u) in
-    (λ h. record { opened = h .opened; closed = h .closed; inside = i .0 (rw z at (h .inside)) }, λ h. record { opened = h .opened; closed = h .closed; inside = rw z (i .1 (h .inside)) })
+    let q : in-silence (map tenfold-fix l) u ≡ in-silence l u = silence-changed tenfold-fix u u (λ a. refl) (λ a. refl) (λ a. refl) l in (
+      λ h. record { opened = h .opened; closed = h .closed; heard = record { outside-silences = sym q ∙ h .heard .outside-silences }; inside = i .0 (rw z at (h .inside)) },
+      λ h. record { opened = h .opened; closed = h .closed; heard = record { outside-silences = q ∙ h .heard .outside-silences }; inside = rw z (i .1 (h .inside)) },
+    )
 
 edges-tenfold : (box : Box) → edges-outside (millimetre-trail .limit) (tenfold-box box) ≡ edges-outside (trail .limit) box
 edges-tenfold box =

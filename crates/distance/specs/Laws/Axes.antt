@@ -16,7 +16,7 @@ pub record AlongAxis (g : ℤ → ℤ) : Type 0 where
 
 module _ (g h : ℤ → ℤ) where
   abbrev pub changed-fix : Fix → Fix
-  changed-fix f = record { t = f .t; x = g (f .x); y = h (f .y) }
+  changed-fix f = record { t = f .t; x = g (f .x); y = h (f .y); silence = f .silence }
 
   abbrev pub changed-place : Place → Place
   changed-place P = record { x = g (P .x); y = h (P .y); d = P .d }

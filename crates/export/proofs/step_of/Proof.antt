@@ -19,6 +19,9 @@ whole-requires c κs = search needs
 whole-requires-2 : tie.Need-whole-requires-2
 whole-requires-2 c κs = search needs
 
+wide-requires : tie.Need-wide-requires
+wide-requires c κs = search needs
+
 enum-told : tie.Need-enum-told
 enum-told c = search needs
 
@@ -26,13 +29,15 @@ returns : tie.Need-returns
 returns c =
     step-found
     _
-    (fixOf (c .before .before .before .before .s .given .0 .0))
+    (fixOf (c .before .before .before .before .before .before .s .given .0 .0))
     _
     _
     _
-    (toZ-ofZ {w = w32} {z = c .before .whole .result} (search needs) ∙ c .before .whole .ensures)
-    (toZ-ofZ {w = w32} {z = c .whole2 .result} (search needs) ∙ c .whole2 .ensures)
-    (sym (ap found (c .before .before .before .before .s .given .1)))
+    _
+    (toZ-ofZ {w = w32} {z = c .before .before .whole .result} (search needs) ∙ c .before .before .whole .ensures)
+    (toZ-ofZ {w = w32} {z = c .before .whole2 .result} (search needs) ∙ c .before .whole2 .ensures)
+    (c .wide .ensures)
+    (sym (ap found (c .before .before .before .before .before .before .s .given .1)))
 
 returns-2 : tie.Need-returns-2
 returns-2 c = ap (λ (s : Yielded). step-numbers (c .before .before .args .kind) (gives (found s))) (sym (c .enum-told .given .1))
@@ -44,6 +49,7 @@ step-of-spec =
     enum-known-s
     whole-requires
     whole-requires-2
+    wide-requires
     enum-told
     returns
     returns-2)

@@ -4,6 +4,9 @@ use borrow.Author.Needs.{needs}
 use Rattle.export.proofs.trails_write_millimetres.Statement.{statement}
 use Rattle.export.proofs.trails_write_millimetres.Tie as tie
 
+slice-aggregate-write : tie.Need-slice-aggregate-write
+slice-aggregate-write c = search needs
+
 write-requires : tie.Need-write-requires
 write-requires c κs = search needs
 
@@ -19,4 +22,4 @@ returns c =
     (c .length-of .ensures ∙ ap value-numbers (done .0), done .1)
 
 pub trails-write-millimetres-spec : {M : Type 1} → statement M
-trails-write-millimetres-spec = tie.close (tie.spec write-requires length-of-requires same-length returns)
+trails-write-millimetres-spec = tie.close (tie.spec slice-aggregate-write write-requires length-of-requires same-length returns)

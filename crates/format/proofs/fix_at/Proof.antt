@@ -28,6 +28,18 @@ add-wide-fix c = let p = rw (c .enum-told2 .given .1) at (c .before .before .bef
 wide-fix-requires : tie.Need-wide-fix-requires
 wide-fix-requires c κs = let p = rw (c .enum-told2 .given .1) at (c .before .before .before .pre) in omega arith
 
+enum-told-3 : tie.Need-enum-told-3
+enum-told-3 c = search needs
+
+mul-silence-fix : tie.Need-mul-silence-fix
+mul-silence-fix c = let p = rw (c .enum-told3 .given .1) at (c .before .before .before .pre) in omega arith
+
+add-silence-fix : tie.Need-add-silence-fix
+add-silence-fix c = let p = rw (c .enum-told3 .given .1) at (c .before .before .before .pre) in omega arith
+
+silence-fix-requires : tie.Need-silence-fix-requires
+silence-fix-requires c κs = let p = rw (c .enum-told3 .given .1) at (c .before .before .before .pre) in omega arith
+
 returns : tie.Need-returns
 unfolding fix-at
 returns c = rw (c .before .enum-told .given .1) (c .narrow-fix .ensures)
@@ -36,7 +48,26 @@ returns-2 : tie.Need-returns-2
 unfolding fix-at
 returns-2 c = rw (c .before .enum-told2 .given .1) (c .wide-fix .ensures)
 
+returns-3 : tie.Need-returns-3
+unfolding fix-at
+returns-3 c = rw (c .before .enum-told3 .given .1) (c .silence-fix .ensures)
+
 pub fix-at-spec : {M : Type 1} → statement M
 fix-at-spec =
     tie.close
-    (tie.spec enum-told mul-narrow-fix add-narrow-fix narrow-fix-requires enum-told-2 mul-wide-fix add-wide-fix wide-fix-requires returns returns-2)
+    (tie.spec
+    enum-told
+    mul-narrow-fix
+    add-narrow-fix
+    narrow-fix-requires
+    enum-told-2
+    mul-wide-fix
+    add-wide-fix
+    wide-fix-requires
+    enum-told-3
+    mul-silence-fix
+    add-silence-fix
+    silence-fix-requires
+    returns
+    returns-2
+    returns-3)

@@ -1,6 +1,6 @@
 use mathlib.Core.Path.{_≡_, refl, _∙_, ap}
 use Rattle.format.specs.Bytes.{signed}
-use Rattle.format.specs.Laws.Numbers.{fix-parts}
+use Rattle.format.specs.Laws.Numbers.{fix-parts, no-bytes-say}
 use Prim.Native.Nat.{ℕ, _+_}
 use native.Mathlib.Omega.{arith}
 use borrow.Author.Needs.{needs}
@@ -33,9 +33,9 @@ returns c =
     let s = c .before .before .before .before .before .before in
     let two = c .before .before .before .two-at .ensures .0 in
     let two2 = c .before .two-at2 .ensures .0 in
-    fix-parts 2 _ (s .args .at) _ _ _ (c .before .before .before .before .four-at .ensures)
+    fix-parts 2 0 _ (s .args .at) _ _ _ _ (c .before .before .before .before .four-at .ensures)
     (c .before .before .coordinate .ensures ∙ ap (signed 2) two)
-    (c .coordinate2 .ensures ∙ ap (signed 2) (two2 ∙ rw (six (s .args .at)) refl))
+    (c .coordinate2 .ensures ∙ ap (signed 2) (two2 ∙ rw (six (s .args .at)) refl)) (no-bytes-say _ _)
   where
     six : (a : ℕ) → a + 6 ≡ a + 4 + 2
     six a = omega arith

@@ -15,6 +15,12 @@ enum-told-2 c = search needs
 put-wide-fix-requires : tie.Need-put-wide-fix-requires
 put-wide-fix-requires c κs = let p = rw (c .before .enum-told2 .given .1) at (c .before .before .before .before .pre) in search needs
 
+enum-told-3 : tie.Need-enum-told-3
+enum-told-3 c = search needs
+
+put-silence-fix-requires : tie.Need-put-silence-fix-requires
+put-silence-fix-requires c κs = let p = rw (c .before .enum-told3 .given .1) at (c .before .before .before .before .pre) in search needs
+
 same-length : tie.Need-same-length
 same-length c = search needs
 
@@ -29,6 +35,13 @@ returns-2 : tie.Need-returns-2
 unfolding fix-bytes
 returns-2 c = rw (c .before .before .before .before .enum-told2 .given .1) (c .before .before .put-wide-fix .ensures)
 
+same-length-3 : tie.Need-same-length-3
+same-length-3 c = search needs
+
+returns-3 : tie.Need-returns-3
+unfolding fix-bytes
+returns-3 c = rw (c .before .before .before .before .enum-told3 .given .1) (c .before .before .put-silence-fix .ensures)
+
 pub put-fix-spec : {M : Type 1} → statement M
 put-fix-spec =
     tie.close
@@ -37,7 +50,11 @@ put-fix-spec =
     put-narrow-fix-requires
     enum-told-2
     put-wide-fix-requires
+    enum-told-3
+    put-silence-fix-requires
     same-length
     returns
     same-length-2
-    returns-2)
+    returns-2
+    same-length-3
+    returns-3)

@@ -2,7 +2,7 @@ use mathlib.Core.Path.{_≡_, refl, _∙_, ap}
 use Prim.Native.Nat.{ℕ, _+_}
 use native.Mathlib.Omega.{arith}
 use Rattle.format.specs.Bytes.{signed}
-use Rattle.format.specs.Laws.Numbers.{fix-parts}
+use Rattle.format.specs.Laws.Numbers.{fix-parts, no-bytes-say}
 use borrow.Author.Needs.{needs}
 use Rattle.format.proofs.wide_fix.Statement.{statement}
 use Rattle.format.proofs.wide_fix.Tie as tie
@@ -31,9 +31,9 @@ wide-coordinate-requires-2 c κs = search needs
 returns : tie.Need-returns
 returns c =
     let s = c .before .before .before .before .before .before in
-    fix-parts 4 _ (s .args .at) _ _ _ (c .before .before .before .before .four-at .ensures)
+    fix-parts 4 0 _ (s .args .at) _ _ _ _ (c .before .before .before .before .four-at .ensures)
     (c .before .before .wide-coordinate .ensures ∙ ap (signed 4) (c .before .before .before .four-at2 .ensures))
-    (c .wide-coordinate2 .ensures ∙ ap (signed 4) (c .before .four-at3 .ensures ∙ rw (eight (s .args .at)) refl))
+    (c .wide-coordinate2 .ensures ∙ ap (signed 4) (c .before .four-at3 .ensures ∙ rw (eight (s .args .at)) refl)) (no-bytes-say _ _)
   where
     eight : (a : ℕ) → a + 8 ≡ a + 4 + 4
     eight a = omega arith

@@ -28,7 +28,7 @@ of-head-field field b h = rw (le-ltb (length b) 10 h) refl
 -- ---- the bytes of a list of fixes
 pub length-fix-bytes : (K : Kind) → IsKind K → (f : Fix) → length (fix-bytes K f) ≡ K .size
 unfolding fix-bytes fix-to
-length-fix-bytes K is f = rw (length-append, length-append, length-bytes, length-bytes, length-bytes, is .size-is) (omega arith)
+length-fix-bytes K is f = rw (length-append, length-append, length-append, length-bytes, length-bytes, length-bytes, length-bytes, is .size-is) (omega arith)
 
 pub length-all-bytes : (K : Kind) → IsKind K → (l : List Fix) → length (all-bytes K l) ≡ K .size * length l
 unfolding all-bytes

@@ -58,11 +58,26 @@ module _ (w : Width) (k : ℕ) (small : k < 2 ^ hbits w) where
   complement-fits = rw complement (record { sfits = small })
 
 -- a fix, from its parts
-pub fix-parts : (width : ℕ) (b : List ℕ) (at t : ℕ) (x y : ℤ) → t ≡ number-at b at 4 → x ≡ signed width (number-at b (at + 4) width)
-    → y ≡ signed width (number-at b (at + 4 + width) width)
-    → _≡_ {A = Fix} (record { t = t; x = x; y = y }) (fix-from width b at)
+pub fix-parts : (width silence-width : ℕ) (b : List ℕ) (at t : ℕ) (x y : ℤ) (s : ℕ) → t ≡ number-at b at 4 → x ≡ signed width (number-at b (at + 4) width)
+    → y ≡ signed width (number-at b (at + 4 + width) width) → s ≡ number-at b (at + 4 + width + width) silence-width
+    → _≡_ {A = Fix} (record { t = t; x = x; y = y; silence = s }) (fix-from width silence-width b at)
 unfolding fix-from
-fix-parts width b at t x y p q r = rw (p, q, r) refl
+fix-parts width silence-width b at t x y s p q r z = rw (p, q, r, z) refl
+
+pub no-bytes-say : (b : List ℕ) (at : ℕ) → 0 ≡ number-at b at 0
+unfolding number-at
+no-bytes-say b at = refl
+
+pub one-byte : (b : List ℕ) (at : ℕ) → getD b at 0 ≡ number-at b at 1
+unfolding number-at
+one-byte b at = omega arith
+
+-- one without silence, and the byte of it that follows
+pub with-silence : (b : List ℕ) (at s : ℕ) (f : Fix) → f ≡ fix-from 2 0 b at → s ≡ getD b (at + 8) 0 → _≡_ {A = Fix} (record { t = f .t; x = f .x; y = f .y; silence = s }) (fix-from 2 1 b at)
+unfolding fix-from
+with-silence b at s f e z =
+    let eight : at + 4 + 2 + 2 ≡ at + 8 = omega arith in
+    rw (e, z, eight, one-byte b (at + 8)) refl
 
 -- ---- the other way: the number that says a coordinate, computed in 64 bits
 pub record NumberFits (size : ℕ) (z : ℤ) : Type 0 where

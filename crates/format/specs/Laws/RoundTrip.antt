@@ -8,7 +8,7 @@ use native.Mathlib.Nat.{pow-suc, mul-zero, mul-suc}
 use native.Mathlib.Numerals.{add-one}
 use native.Mathlib.Omega.{arith}
 use lib.Dec.{ltb}
-use lib.ListN.{length, getD, take, drop, length-append}
+use lib.ListN.{length, getD, take, drop, set, length-append, length-take, length-drop}
 use lib.Seq.{sets, getD-append-seam, drop-cons, take-add, drop-drop}
 use lib.IntN.{ℤ, pos, negsuc, negℤ}
 use lib.Signed.{_≤ℤ_}
@@ -65,31 +65,43 @@ pub record InRange (K : Kind) (f : Fix) : Type 0 where
   pub t32 : f .t < 4294967296
   pub x-in : InBytes (K .width) (f .x)
   pub y-in : InBytes (K .width) (f .y)
+  pub silence-in : f .silence < 256 ^ K .silence-width
 
 -- a place within the kind's limit fits a fix's bytes
 pub bounded-in-bytes : (K : Kind) → IsKind K → (z : ℤ) → negℤ (pos (K .limit)) ≤ℤ z → z ≤ℤ pos (K .limit) → InBytes (K .width) z
 bounded-in-bytes K is (pos n) low high = record { in-bytes = let h : n ≤ K .limit = omega (arith, simp diffs at high) in omega (arith, h, is .inside) }
 bounded-in-bytes K is (negsuc n) low high = record { in-bytes = let h : n < K .limit = omega (arith, simp diffs at low) in omega (arith, h, is .inside) }
 
-pub bounded-in-range : (K : Kind) → IsKind K → {f : Fix} → f .t < 4294967296 → Bounded (K .limit) f → InRange K f
-bounded-in-range K is {f} t b = record { t32 = t; x-in = bounded-in-bytes K is (f .x) (b .x-low) (b .x-high); y-in = bounded-in-bytes K is (f .y) (b .y-low) (b .y-high) }
+pub bounded-in-range : (K : Kind) → IsKind K → {f : Fix} → f .t < 4294967296 → f .silence < 256 ^ K .silence-width → Bounded (K .limit) f → InRange K f
+bounded-in-range K is {f} t s b = record {
+  t32 = t;
+  x-in = bounded-in-bytes K is (f .x) (b .x-low) (b .x-high);
+  y-in = bounded-in-bytes K is (f .y) (b .y-low) (b .y-high);
+  silence-in = s;
+}
 
 -- its numbers have room in its bytes, ..
 pub record Storable (K : Kind) (f : Fix) : Type 0 where
   pub t-fits : f .t < 4294967296
   pub x-fits : unsigned (K .width) (f .x) < 256 ^ K .width
   pub y-fits : unsigned (K .width) (f .y) < 256 ^ K .width
+  pub silence-fits : f .silence < 256 ^ K .silence-width
 
 -- .. which then say it, but for a coordinate that isn't in range: of that two's complement says another
 abbrev pub said-coordinate : Kind → ℤ → ℤ
 said-coordinate K z = signed (K .width) (unsigned (K .width) z)
 
 abbrev pub said : Kind → Fix → Fix
-said K f = record { t = f .t; x = said-coordinate K (f .x); y = said-coordinate K (f .y) }
+said K f = record { t = f .t; x = said-coordinate K (f .x); y = said-coordinate K (f .y); silence = f .silence }
 
 module _ (K : Kind) (is : IsKind K) where
   pub storable : (f : Fix) → InRange K f → Storable K f
-  storable f h = record { t-fits = h .t32; x-fits = coordinate (K .width) (f .x) (is .some-width) (h .x-in) .small; y-fits = coordinate (K .width) (f .y) (is .some-width) (h .y-in) .small }
+  storable f h = record {
+    t-fits = h .t32;
+    x-fits = coordinate (K .width) (f .x) (is .some-width) (h .x-in) .small;
+    y-fits = coordinate (K .width) (f .y) (is .some-width) (h .y-in) .small;
+    silence-fits = h .silence-in;
+  }
 
   said-itself : (f : Fix) → InRange K f → said K f ≡ f
   said-itself f h = rw (coordinate (K .width) (f .x) (is .some-width) (h .x-in) .back, coordinate (K .width) (f .y) (is .some-width) (h .y-in) .back) refl
@@ -102,20 +114,25 @@ module _ (K : Kind) (is : IsKind K) where
   unfolding fix-at fix-bytes fix-to
   read-fix p r k f len h =
       let w = K .width in
+      let v = K .silence-width in
       let at = record-length K k in
       let T = bytes-of 4 (f .t) in
       let X = bytes-of w (unsigned w (f .x)) in
       let Y = bytes-of w (unsigned w (f .y)) in
-      let b = p ++ ((T ++ (X ++ Y)) ++ r) in
-      let et : b ≡ p ++ (T ++ ((X ++ Y) ++ r)) = simp append-assoc in
-      let ex : b ≡ (p ++ T) ++ (X ++ (Y ++ r)) = simp append-assoc in
-      let ey : b ≡ ((p ++ T) ++ X) ++ (Y ++ r) = simp append-assoc in
+      let S = bytes-of v (f .silence) in
+      let b = p ++ ((T ++ (X ++ (Y ++ S))) ++ r) in
+      let et : b ≡ p ++ (T ++ ((X ++ (Y ++ S)) ++ r)) = simp append-assoc in
+      let ex : b ≡ (p ++ T) ++ (X ++ ((Y ++ S) ++ r)) = simp append-assoc in
+      let ey : b ≡ ((p ++ T) ++ X) ++ (Y ++ (S ++ r)) = simp append-assoc in
+      let es : b ≡ (((p ++ T) ++ X) ++ Y) ++ (S ++ r) = simp append-assoc in
       let lt : length (p ++ T) ≡ at + 4 = length-append p T ∙ rw (len, length-bytes 4 (f .t)) refl in
       let lx : length ((p ++ T) ++ X) ≡ at + 4 + w = length-append (p ++ T) X ∙ rw (lt, length-bytes w (unsigned w (f .x))) refl in
-      sym (fix-parts w b at (f .t) (said-coordinate K (f .x)) (said-coordinate K (f .y))
+      let ly : length (((p ++ T) ++ X) ++ Y) ≡ at + 4 + w + w = length-append ((p ++ T) ++ X) Y ∙ rw (lx, length-bytes w (unsigned w (f .y))) refl in
+      sym (fix-parts w v b at (f .t) (said-coordinate K (f .x)) (said-coordinate K (f .y)) (f .silence)
       (sym (read-at b p _ at 4 (f .t) et (sym len) (h .t-fits)))
       (sym (ap (signed w) (read-at b (p ++ T) _ (at + 4) w (unsigned w (f .x)) ex (sym lt) (h .x-fits))))
-      (sym (ap (signed w) (read-at b ((p ++ T) ++ X) _ (at + 4 + w) w (unsigned w (f .y)) ey (sym lx) (h .y-fits)))))
+      (sym (ap (signed w) (read-at b ((p ++ T) ++ X) _ (at + 4 + w) w (unsigned w (f .y)) ey (sym lx) (h .y-fits))))
+      (sym (read-at b (((p ++ T) ++ X) ++ Y) _ (at + 4 + w + w) v (f .silence) es (sym ly) (h .silence-fits))))
 
   -- ---- a list of fixes
   pub read-fixes : (p r : List ℕ) (k : ℕ) {l : List Fix} → length p ≡ record-length K k → All (Storable K) l → each (fix-at K (p ++ (all-bytes K l ++ r))) k (length l) ≡ map (said K) l
@@ -241,12 +258,13 @@ module _ (K : Kind) (is : IsKind K) (b : List ℕ) (h : AreBytes b) where
   write-fix k f =
       let at = record-length K k in
       let w = K .width in
+      let v = K .silence-width in
       let s = is .size-is in
       let more = one-more K k in
-      let all : 4 + (w + w) ≡ K .size = omega arith in
+      let all : 4 + (w + (w + v)) ≡ K .size = omega arith in
       rw (unsigned-back w (number-at b (at + 4) w) (is .some-width) (number-below b (at + 4) w h), unsigned-back w (number-at b (at + 4 + w) w) (is .some-width) (number-below b (at + 4 + w) w h))
-      (rw (write-number b at 4 h (omega arith), write-number b (at + 4) w h (omega arith), write-number b (at + 4 + w) w h (omega arith))
-      (rw (take-more b (at + 4) w w, take-more b at 4 (w + w), all) refl))
+      (rw (write-number b at 4 h (omega arith), write-number b (at + 4) w h (omega arith), write-number b (at + 4 + w) w h (omega arith), write-number b (at + 4 + w + w) v h (omega arith))
+      (rw (take-more b (at + 4 + w) w v, take-more b (at + 4) w (w + v), take-more b at 4 (w + (w + v)), all) refl))
 
   write-fixes : (k n : ℕ) → record-length K k + K .size * n ≤ length b → all-bytes K (each (fix-at K b) k n) ≡ take (K .size * n) (drop (record-length K k) b)
   unfolding each all-bytes
@@ -263,7 +281,12 @@ module _ (K : Kind) (is : IsKind K) (b : List ℕ) (h : AreBytes b) where
   fix-in-range k =
       let at = record-length K k in
       let w = K .width in
-      record { t32 = number-below b at 4 h; x-in = signed-fits w (number-at b (at + 4) w) (is .some-width) (number-below b (at + 4) w h); y-in = signed-fits w (number-at b (at + 4 + w) w) (is .some-width) (number-below b (at + 4 + w) w h) }
+      record {
+        t32 = number-below b at 4 h;
+        x-in = signed-fits w (number-at b (at + 4) w) (is .some-width) (number-below b (at + 4) w h);
+        y-in = signed-fits w (number-at b (at + 4 + w) w) (is .some-width) (number-below b (at + 4 + w) w h);
+        silence-in = number-below b (at + 4 + w + w) (K .silence-width) h;
+      }
 
   pub bytes-in-range : (k n : ℕ) → All (InRange K) (each (fix-at K b) k n)
   unfolding each
@@ -301,6 +324,13 @@ module _ (b : List ℕ) (from to : ℕ) (h : AreBytes b) where
       rw (sets-then b to (bytes-of 4 m) (to + 4) (bytes-of 4 n) (rw (length-bytes 4 m) refl))
       (sets-then b to (bytes-of 4 m ++ bytes-of 4 n) (to + 8) (bytes-of 4 o) (rw size refl) ∙ rw all refl)
 
+  -- eight of them moved before, and the one that follows
+  pub nine-moved : (s : ℕ) → from + 9 ≤ length b → s ≡ getD b (from + 8) 0 → set (sets b to (take 8 (drop from b))) (to + 8) s ≡ sets b to (take 9 (drop from b))
+  nine-moved s whole e =
+      let size : length (take 8 (drop from b)) ≡ 8 = rw (length-take 8 (drop from b), length-drop from b) (omega arith) in
+      let one : take 1 (drop (from + 8) b) ≡ s ∷ [] = rw (drop-cons b (from + 8) 0 (omega arith), e) refl in
+      sets-then b to (take 8 (drop from b)) (to + 8) (s ∷ []) (rw size refl) ∙ rw (← one, take-more b from 8 1) refl
+
 -- what is written are bytes
 bytes-are : (size n : ℕ) → AreBytes (bytes-of size n)
 unfolding bytes-of
@@ -310,7 +340,7 @@ bytes-are (suc size) n = all-more {m = n % 256} (omega arith) (bytes-are size (n
 pub fixes-are-bytes : (K : Kind) (l : List Fix) → AreBytes (all-bytes K l)
 unfolding all-bytes fix-bytes fix-to
 fixes-are-bytes K [] = all-none
-fixes-are-bytes K (f ∷ l) = all-append (all-append (bytes-are 4 (f .t)) (all-append (bytes-are (K .width) (unsigned (K .width) (f .x))) (bytes-are (K .width) (unsigned (K .width) (f .y))))) (fixes-are-bytes K l)
+fixes-are-bytes K (f ∷ l) = all-append (all-append (bytes-are 4 (f .t)) (all-append (bytes-are (K .width) (unsigned (K .width) (f .x))) (all-append (bytes-are (K .width) (unsigned (K .width) (f .y))) (bytes-are (K .silence-width) (f .silence))))) (fixes-are-bytes K l)
 
 pub record-are-bytes : (K : Kind) (mark : ℕ) (l : List Fix) → AreBytes (record-bytes K mark l)
 unfolding record-bytes header-bytes

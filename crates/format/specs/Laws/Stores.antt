@@ -1,10 +1,10 @@
 -- Runs of stores (`sets` of the library): one after another, what stands beyond them, and numbers stored and read again.
 use mathlib.Core.Path.{_≡_, refl, _∙_, ap}
-use mathlib.Core.List.{List, [], _∷_, _++_}
+use mathlib.Core.List.{List, [], _∷_, _++_, append-nil}
 use Prim.Native.Nat.{ℕ, zero, suc, _+_, _/_, _%_, _<_, _≤_}
 use native.Mathlib.Numerals.{add-one, add-two, add-three}
 use native.Mathlib.Omega.{arith}
-use lib.ListN.{length, getD, drop, set}
+use lib.ListN.{length, getD, drop, set, length-append}
 use lib.Seq.{sets, sets-eq, getD-set-other}
 use Rattle.distance.specs.Fix.{Fix}
 use Rattle.format.specs.Bytes.{number-at, bytes-of, unsigned}
@@ -62,14 +62,31 @@ pub sets-then : (b : List ℕ) (at : ℕ) (l : List ℕ) (i : ℕ) (m : List ℕ
 sets-then b at l i m e = rw e (sets-append b at l m)
 
 -- a fix, and a record's head, field by field
+no-bytes : (n : ℕ) → bytes-of 0 n ≡ []
+unfolding bytes-of
+no-bytes n = refl
+
 pub fix-stores : (width : ℕ) (b : List ℕ) (at at-y : ℕ) (f : Fix) → at-y ≡ at + 4 + width
-    → sets (sets (sets b at (bytes-of 4 (f .t))) (at + 4) (bytes-of width (unsigned width (f .x)))) at-y (bytes-of width (unsigned width (f .y))) ≡ sets b at (fix-to width f)
+    → sets (sets (sets b at (bytes-of 4 (f .t))) (at + 4) (bytes-of width (unsigned width (f .x)))) at-y (bytes-of width (unsigned width (f .y))) ≡ sets b at (fix-to width 0 f)
 unfolding fix-to
 fix-stores width b at at-y f e =
     let x = bytes-of width (unsigned width (f .x)) in
     let y = bytes-of width (unsigned width (f .y)) in
     sets-then (sets b at (bytes-of 4 (f .t))) (at + 4) x at-y y (rw (length-bytes width (unsigned width (f .x))) e)
     ∙ sets-then b at (bytes-of 4 (f .t)) (at + 4) (x ++ y) (rw (length-bytes 4 (f .t)) refl)
+    ∙ rw (no-bytes (f .silence), append-nil y) refl
+
+-- .. with the byte of silence behind it
+pub length-narrow : (f : Fix) → length (fix-to 2 0 f) ≡ 8
+unfolding fix-to
+length-narrow f = rw (no-bytes (f .silence), append-nil (bytes-of 2 (unsigned 2 (f .y))), length-append, length-append, length-bytes, length-bytes, length-bytes) refl
+
+with-byte : (f : Fix) → f .silence < 256 → fix-to 2 0 f ++ f .silence ∷ [] ≡ fix-to 2 1 f
+unfolding fix-to bytes-of
+with-byte f h = let e : f .silence % 256 ≡ f .silence = omega arith in rw e refl
+
+pub silence-stores : (b : List ℕ) (at : ℕ) (f : Fix) → f .silence < 256 → set (sets b at (fix-to 2 0 f)) (at + 8) (f .silence) ≡ sets b at (fix-to 2 1 f)
+silence-stores b at f h = sets-then b at (fix-to 2 0 f) (at + 8) (f .silence ∷ []) (rw (length-narrow f) refl) ∙ rw (with-byte f h) refl
 
 pub head-stores : (K : Kind) (b : List ℕ) (mark n : ℕ)
     → sets (sets (sets (sets b 0 (bytes-of 4 (record-length K n))) 4 (bytes-of 2 (K .code))) 6 (bytes-of 2 mark)) 8 (bytes-of 2 n) ≡ sets b 0 (header-bytes K mark n)

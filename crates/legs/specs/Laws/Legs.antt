@@ -1,7 +1,6 @@
 -- One leg of a trail, from the places over ℤ to those counted from −160,000 on: the times of the window at which it is in the box.
 use mathlib.Core.Path.{_≡_, _∙_, ap}
 use Prim.Native.Nat.{ℕ, _+_, _*_, _-_, _≤_, _<_}
-use native.Mathlib.Nat.{mul-le-mul-right}
 use native.Mathlib.Omega.{arith}
 use lib.IntN.{ℤ, pos, natAbs, negℤ, _+ℤ_, _-ℤ_, _*ℤ_}
 use lib.Signed.{_≤ℤ_}
@@ -196,9 +195,10 @@ module _ (z : ℕ) (box : Box) (w v : ℕ) (a b : Fix) (base : z ≤ a .t) (rise
   leg-means = said-as (leg-first (raised z a) (raised z b) (framed box) w v) hit-out hit-in
       (leg-said (raised z a) (raised z b) (framed box) w v (omega arith))
 
--- ---- a lone fix, in a window that doesn't go on after it
+-- ---- a fix at its own time, and its place in the box
 pub record OwnIn (z : ℕ) (box : Box) (w v : ℕ) (a : Fix) (u : Time) : Type 0 where
   pub from : (a .t - z) * u .q ≤ u .p
+  pub to : u .p ≤ (a .t - z) * u .q
   pub window : Open w v u
   pub inside : In box (own a)
 
@@ -209,13 +209,13 @@ module _ {i lo hi : ℤ} {I L H : ℕ} (ci : Counts i I) (cl : Counts lo L) (ch 
   rests-out : L ≤ I → I ≤ H → ((lo *ℤ pos 1) ≤ℤ i) × (i ≤ℤ (hi *ℤ pos 1))
   rests-out h k = (simp (ci .is, cl .is, diffs) (omega arith), simp (ci .is, ch .is, diffs) (omega arith))
 
-module _ (z : ℕ) (box : Box) (w v : ℕ) (a : Fix) (ends : v ≤ a .t - z) (pa : Bounded widest a) (nb : BoxInWidest box) where
+module _ (z : ℕ) (box : Box) (w v : ℕ) (a : Fix) (pa : Bounded widest a) (nb : BoxInWidest box) where
   stands-out : (u : Time) → RestsIn (raised z a) (framed box) w v u → OwnIn z box w v a u
   unfolding own
   stands-out u h =
       let x = rests-out (counts (a .x) (placed-x pa)) (counts (box .x-low) (nb .x-low)) (counts (box .x-high) (nb .x-high)) (h .in-x .above) (h .in-x .below) in
       let y = rests-out (counts (a .y) (placed-y pa)) (counts (box .y-low) (nb .y-low)) (counts (box .y-high) (nb .y-high)) (h .in-y .above) (h .in-y .below) in
-      record { from = h .on .from; window = h .window; inside = record { x-above = x .0; x-below = x .1; y-above = y .0; y-below = y .1 } }
+      record { from = h .on .from; to = omega (arith, h .on .to); window = h .window; inside = record { x-above = x .0; x-below = x .1; y-above = y .0; y-below = y .1 } }
 
   stands-in : (u : Time) → OwnIn z box w v a u → RestsIn (raised z a) (framed box) w v u
   unfolding own
@@ -223,7 +223,7 @@ module _ (z : ℕ) (box : Box) (w v : ℕ) (a : Fix) (ends : v ≤ a .t - z) (pa
       let x = rests-in (counts (a .x) (placed-x pa)) (counts (box .x-low) (nb .x-low)) (counts (box .x-high) (nb .x-high)) (h .inside .x-above) (h .inside .x-below) in
       let y = rests-in (counts (a .y) (placed-y pa)) (counts (box .y-low) (nb .y-low)) (counts (box .y-high) (nb .y-high)) (h .inside .y-above) (h .inside .y-below) in
       record {
-        on = record { from = h .from; to = omega (arith, h .window .closed, mul-le-mul-right (u .q) ends) };
+        on = record { from = h .from; to = omega (arith, h .to) };
         window = h .window;
         in-x = record { above = x .0; below = x .1 };
         in-y = record { above = y .0; below = y .1 };

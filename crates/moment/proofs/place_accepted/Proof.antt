@@ -6,12 +6,10 @@ use denote.Ref.{now}
 use Rattle.distance.specs.Fix.{Fix}
 use Rattle.format.specs.Kinds.{Kind, layout}
 use Rattle.format.specs.Format.{fix-at, count-field}
-use Rattle.record.specs.Answers.{gives}
 use Rattle.record.specs.Laws.Head.{Head}
 use Rattle.record.specs.Laws.Accepted.{accepted-good}
 use Rattle.record.specs.Laws.Trail.{Lent, lent, reaches, fix-of}
-use Rattle.moment.specs.Moment.{Standing}
-use Rattle.moment.specs.Laws.Placing.{place-11, place-early, place-late, place-gives}
+use Rattle.moment.specs.Laws.Placing.{place-11, place-early, place-late, place-heard}
 use borrow.Author.Needs.{needs}
 use Rattle.moment.proofs.place_accepted.Statement.{statement}
 use Rattle.moment.proofs.place_accepted.Tie as tie
@@ -91,8 +89,8 @@ returns-4 c =
     let e = c .before in
     let i = e .before .before .before .before .before .before .before .before in
     let s = i .before .before .before .before .before .before in
-    ap (λ (p : Standing). gives p) (c .place-on .ensures ∙ rw (i .instant-of .ensures) refl)
-    ∙ sym (place-gives (bytes s) _ _ (s .pre .0) (i .before .before .before .before .if1 .left)
+    c .place-on .ensures ∙ rw (i .instant-of .ensures) refl
+    ∙ sym (place-heard (bytes s) _ _ (s .pre .0) (i .before .before .before .before .if1 .left)
     (omega (arith, e .before .before .before .before .if2 .left, i .instant-of .ensures, e .before .before .before .before .before .before .before .instant-of2 .ensures, first-time i))
     (omega (arith, e .if3 .left, i .instant-of .ensures, e .before .before .before .instant-of3 .ensures, last-time i)))
 

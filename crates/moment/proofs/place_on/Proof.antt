@@ -1,9 +1,9 @@
-use mathlib.Core.Path.{sym, _∙_, ap}
+use mathlib.Core.Path.{_∙_, ap}
 use Prim.Native.Nat.{_-_}
 use native.Mathlib.Omega.{arith}
 use Rattle.distance.specs.Fix.{fixOf}
-use Rattle.moment.specs.Moment.{beside}
 use Rattle.format.specs.Kinds.{layout}
+use Rattle.record.specs.Answers.{gives}
 use Rattle.record.specs.Laws.Trail.{lent, reaches}
 use Rattle.moment.specs.Laws.Walk.{Walk, walk-start, walk-leg, walk-found, walk-next, walk-end}
 use borrow.Author.Needs.{needs}
@@ -28,13 +28,13 @@ fix-at-requires-2 c κs = let r = c .before .before .before .before .pre in reac
 instant-of-requires : tie.Need-instant-of-requires Inv-loop μ-loop
 instant-of-requires c κs = search needs
 
-on-leg-requires : tie.Need-on-leg-requires Inv-loop μ-loop
-on-leg-requires c κs = walk-leg (c .before .before .before .before .before .before .loop .inv) (c .before .before .before .before .before .loop-test .taken) (c .before .before .before .before .fix-at2 .ensures) (omega (arith, c .if1 .taken, c .before .before .before .instant-of .ensures))
+heard-on-leg-requires : tie.Need-heard-on-leg-requires Inv-loop μ-loop
+heard-on-leg-requires c κs = walk-leg (c .before .before .before .before .before .before .loop .inv) (c .before .before .before .before .before .loop-test .taken) (c .before .before .before .before .fix-at2 .ensures) (omega (arith, c .if1 .taken, c .before .before .before .instant-of .ensures))
 
 returns : tie.Need-returns Inv-loop μ-loop
 returns c =
-    c .on-leg .ensures
-    ∙ ap beside (sym (walk-found (c .before .before .before .before .before .before .before .loop .inv) (c .before .before .before .before .before .before .loop-test .taken) (c .before .before .before .before .before .fix-at2 .ensures) (omega (arith, c .before .if1 .taken, c .before .before .before .before .instant-of .ensures))))
+    c .heard-on-leg .ensures
+    ∙ walk-found (c .before .before .before .before .before .before .before .loop .inv) (c .before .before .before .before .before .before .loop-test .taken) (c .before .before .before .before .before .fix-at2 .ensures) (omega (arith, c .before .if1 .taken, c .before .before .before .before .instant-of .ensures))
 
 add-k : tie.Need-add-k Inv-loop μ-loop
 add-k c = search needs
@@ -49,7 +49,7 @@ alone-requires : tie.Need-alone-requires Inv-loop μ-loop
 alone-requires c κs = search needs
 
 returns-2 : tie.Need-returns-2 Inv-loop μ-loop
-returns-2 c = c .alone .ensures ∙ ap beside (sym (walk-end (c .before .before .loop .inv) (c .before .loop-test .left)))
+returns-2 c = ap gives (c .alone .ensures) ∙ walk-end (c .before .before .loop .inv) (c .before .loop-test .left)
 
 pub place-on-spec : {M : Type 1} → statement M
 place-on-spec =
@@ -61,7 +61,7 @@ place-on-spec =
     loop-holds
     fix-at-requires-2
     instant-of-requires
-    on-leg-requires
+    heard-on-leg-requires
     returns
     add-k
     loop-less

@@ -8,10 +8,11 @@ use native.Mathlib.Omega.{arith}
 use lib.IntN.{ℤ, pos, negsuc, natAbs, negℤ, negℤ-negℤ}
 use lib.Signed.{_≤ℤ_, ltZ}
 use Rattle.distance.specs.Fix.{Fix, Bounded}
-use Rattle.distance.specs.Place.{Place}
+use Rattle.distance.specs.Place.{moment, Place}
 use Rattle.distance.specs.Mirror.{Mirror, mirrored, mirrored-fix, mirrored-place}
 use Rattle.distance.specs.Laws.All.{All, all-none, all-more, all-map}
 use Rattle.distance.specs.Laws.Mirror.{place-mirrored, rounded-mirrored}
+use Rattle.distance.specs.Laws.Silence.{silence-changed}
 use Rattle.distance.specs.Integers.Order.{ltZ-opposite}
 use Rattle.distance.specs.Integers.Bounds.{abs-bound}
 use Rattle.distance.specs.Integers.Tests.{Test, holds, fails, test}
@@ -22,14 +23,14 @@ use Rattle.format.specs.Laws.Kinds.{IsKind, kind-of-is, same-kind-of}
 use Rattle.format.specs.Laws.Numbers.{even, signed-high}
 use Rattle.format.specs.Laws.RoundTrip.{AreBytes, InRange, Storable, said, coordinate, bytes-in-range}
 use Rattle.format.specs.Laws.Changed.{changed-head, changed-fixes, changed-in-range}
-use Rattle.record.specs.Checks.{Check, misplaced, unordered, long-span, bad-moment, sentence, fix-checks, refusal-of, head-refusal, placing, outside, fix-outside, too-long, moment-outside, IsAccepted}
+use Rattle.record.specs.Checks.{Check, misplaced, unordered, long-span, bad-silence, bad-moment, moment-in-silence, sentence, fix-checks, refusal-of, head-refusal, placing, outside, fix-outside, too-long, last-silent, moment-outside, IsAccepted}
 use Rattle.record.specs.Answers.{gives, answer}
 use Rattle.record.specs.Laws.Head.{Head, head-passed}
 use Rattle.record.specs.Laws.Accepted.{accepted-good, places-good}
-use Rattle.record.specs.Laws.Changed.{changed-refusal, outside-changed, early-changed, ends-changed}
+use Rattle.record.specs.Laws.Changed.{changed-refusal, outside-changed, early-changed, silences-changed, ends-changed}
 use Rattle.moment.specs.Moment.{asked-moment, at-moment, beside, place-answer}
 use Rattle.moment.specs.Mirror.{mirrored-record, mirrored-standing, mirrored-answer}
-use Rattle.moment.specs.Laws.Moment.{moment, moment-is}
+use Rattle.moment.specs.Laws.Moment.{moment-is}
 use Rattle.moment.specs.Laws.Placing.{own-checks, asks-moment, none-accepted}
 
 -- ---- a coordinate of so many bytes, mirrored
@@ -84,7 +85,7 @@ module _ (K : Kind) (is : IsKind K) (m : Mirror) where
   all-stored : {l : List Fix} → All (InRange K) l → All (Storable K) (map (mirrored-fix m) l)
   all-stored all-none = all-none
   all-stored (all-more {m = a} h t) =
-      all-more (record { t-fits = h .t32; x-fits = stored (K .width) (is .some-width) (m .in-x) (a .x) (h .x-in); y-fits = stored (K .width) (is .some-width) (m .in-y) (a .y) (h .y-in) }) (all-stored t)
+      all-more (record { t-fits = h .t32; x-fits = stored (K .width) (is .some-width) (m .in-x) (a .x) (h .x-in); y-fits = stored (K .width) (is .some-width) (m .in-y) (a .y) (h .y-in); silence-fits = h .silence-in }) (all-stored t)
 
   as-outside : (a : Fix) → InRange K a → fix-outside (K .limit) (said-fix a) ≡ fix-outside (K .limit) a
   as-outside a h = rw (outside-said (K .width) (is .some-width) (m .in-x) (K .limit) (a .x) (h .x-in), outside-said (K .width) (is .some-width) (m .in-y) (K .limit) (a .y) (h .y-in)) refl
@@ -96,7 +97,7 @@ module _ (K : Kind) (is : IsKind K) (m : Mirror) where
   mirrored-in-range : {l : List Fix} → All (InRange K) l → All (Bounded (K .limit)) l → All (InRange K) (map (mirrored-fix m) l)
   mirrored-in-range all-none all-none = all-none
   mirrored-in-range (all-more {m = a} h t) (all-more p q) =
-      all-more (record { t32 = h .t32; x-in = in-both (K .width) (is .some-width) (m .in-x) (a .x) (within (a .x) (p .x-low) (p .x-high)); y-in = in-both (K .width) (is .some-width) (m .in-y) (a .y) (within (a .y) (p .y-low) (p .y-high)) })
+      all-more (record { t32 = h .t32; x-in = in-both (K .width) (is .some-width) (m .in-x) (a .x) (within (a .x) (p .x-low) (p .x-high)); y-in = in-both (K .width) (is .some-width) (m .in-y) (a .y) (within (a .y) (p .y-low) (p .y-high)); silence-in = h .silence-in })
       (mirrored-in-range t q)
 
 module _ (m : Mirror) where
@@ -143,7 +144,9 @@ module _ (m : Mirror) (b : List ℕ) (bytes : AreBytes b) where
         let order : asks-moment image s t unordered ≡ asks-moment b s t unordered = rw e (early-changed f (λ a c. refl) l) in
         let span : asks-moment image s t long-span ≡ asks-moment b s t long-span = rw e (ends-changed f too-long too-long (λ a c. refl) l) in
         let moment-in : asks-moment image s t bad-moment ≡ asks-moment b s t bad-moment = rw e (ends-changed f (moment-outside s t) (moment-outside s t) (λ a c. refl) l) in
-        all-more places (all-more order (all-more span (all-more refl (all-more moment-in all-none))))
+        let silences : asks-moment image s t bad-silence ≡ asks-moment b s t bad-silence = rw (e, silences-changed f (λ a. refl) l, ends-changed f last-silent last-silent (λ a c. refl) l) refl in
+        let silence-in : asks-moment image s t moment-in-silence ≡ asks-moment b s t moment-in-silence = rw e (silence-changed f (moment s t) (moment s t) (λ a. refl) (λ a. refl) (λ a. refl) l) in
+        all-more places (all-more order (all-more span (all-more silences (all-more refl (all-more moment-in (all-more silence-in all-none))))))
 
     same-refusal : refusal-of placing image (asked-moment s t) ≡ refusal-of placing b (asked-moment s t)
     same-refusal = changed-refusal b image (changed-head (mirrored-fix m) b) (asked-moment s t) (asked-moment s t) (fix-checks ++ own-checks) same-checks

@@ -1,24 +1,14 @@
 -- THE FRACTION IS THE TRAIL'S INTERPOLATED PLACE at that moment, the very fraction that `place` gives at (1000·s + m)/1000.
 use mathlib.Core.Path.{_≡_, refl, ap}
 use mathlib.Core.List.{List, [], _∷_}
-use Prim.Native.Nat.{ℕ, _+_, _*_, _≤_}
+use Prim.Native.Nat.{ℕ, _+_, _*_}
 use native.Mathlib.Omega.{arith}
 use lib.IntN.{ℤ, pos, _+ℤ_, _-ℤ_, _*ℤ_}
 use Rattle.distance.specs.Fix.{Fix}
 use Rattle.distance.specs.Distance.{seconds}
-use Rattle.distance.specs.Place.{Time, leg, place-from, place, interpolated}
+use Rattle.distance.specs.Place.{moment, leg, place-from, place, interpolated}
 use Rattle.distance.specs.Integers.Differences.{diffs}
 use Rattle.moment.specs.Moment.{on-leg, moment-from, at-moment}
-
-pub one-thousand : 1 ≤ 1000
-one-thousand = omega arith
-
--- the time of p thousandths of a second, and the moment of a second and thousandths
-abbrev pub instant : ℕ → Time
-instant p = record { p = p; q = 1000; whole = one-thousand }
-
-abbrev pub moment : (s m : ℕ) → Time
-moment s m = instant (1000 * s + m)
 
 since-start : (s m t : ℕ) → pos 1000 *ℤ (pos s -ℤ pos t) +ℤ pos m ≡ pos (1000 * s + m) -ℤ pos 1000 *ℤ pos t
 since-start s m t = simp diffs (omega arith)

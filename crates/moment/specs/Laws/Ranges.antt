@@ -1,8 +1,10 @@
 -- What the functions ask of their callers and of the code's widths, one list of facts for each function, proved once.
-use mathlib.Core.Path.{_≡_, refl}
+use mathlib.Core.Path.{_≡_, refl, sym, _∙_}
+use mathlib.Core.Bool.{Bool, true, false, _&&_}
 use mathlib.Core.List.{List, [], _∷_}
 use Prim.Native.Nat.{ℕ, _+_, _*_, _-_, _≤_}
 use native.Mathlib.Omega.{arith}
+use lib.Dec.{ltb}
 use lib.IntN.{ℤ, pos, natAbs, negℤ, _-ℤ_, _*ℤ_}
 use lib.Signed.{_≤ℤ_}
 use mir.Syntax.{w32, w64}
@@ -10,8 +12,9 @@ use mir.Val.{Fits, SFits, toZ}
 use mir.Facts.{toZ-ofZ}
 use Rattle.distance.specs.Fix.{Fix, widest}
 use Rattle.distance.specs.Distance.{seconds}
-use Rattle.distance.specs.Place.{leg, interpolated}
+use Rattle.distance.specs.Place.{instant, Place, leg, interpolated}
 use Rattle.distance.specs.Rounding.{rounded}
+use Rattle.distance.specs.Silence.{silent, strictly-between}
 use Rattle.distance.specs.Span.{Roundable}
 use Rattle.distance.specs.Integers.Differences.{diffs}
 use Rattle.distance.specs.Integers.Order.{gap, nat, le-by, _⊞_, _⊠_, pos-le}
@@ -20,9 +23,14 @@ use Rattle.distance.specs.Integers.Bounds.{abs-bound, Bound, _⊕_, _⊝_, _⊛
 use Rattle.format.specs.Kinds.{Kind}
 use Rattle.format.specs.Format.{kind-of, count-field}
 use Rattle.record.specs.Checks.{IsAccepted}
+use Rattle.record.specs.Answers.{Answer, gives, turns-away}
 use Rattle.moment.specs.Moment.{Standing, beside}
-use Rattle.moment.specs.Laws.Moment.{instant}
 use Rattle.record.specs.Laws.Trail.{Leg, fix-of}
+
+-- what the question gives where check 21 alone is left: the place, unless the moment is silent
+abbrev pub unless-silent : Bool → Place → Answer Standing
+unless-silent true P = turns-away 21
+unless-silent false P = gives (beside P)
 
 -- u thousandths are on the leg from a to b
 pub record OnLeg (a b : Fix) (u : ℕ) : Type 0 where
@@ -36,6 +44,17 @@ pub record Reached (K : Kind) (b : List ℕ) (n u : ℕ) : Type 0 where
   pub kind : K ≡ kind-of b
   pub count : n ≡ count-field b
   pub from : 1000 * (fix-of b 0) .t ≤ u
+
+-- what the code asks of a leg that begins at s thousandths and ends at e, and what it then gives
+module _ (a b : Fix) (u : ℕ) {s e : ℕ} {q : Bool} (p : q ≡ silent a) (r : s ≡ 1000 * a .t + 0) (t : e ≡ 1000 * b .t + 0) where
+  heard-test : q && (ltb s u && ltb u e) ≡ silent a && strictly-between a b (instant u)
+  heard-test = let m : 1000 * a .t + 0 ≡ 1000 * a .t = omega arith in let n : 1000 * b .t + 0 ≡ 1000 * b .t = omega arith in rw (p, r, t, m, n) refl
+
+  pub leg-silent : q && (ltb s u && ltb u e) ≡ true → turns-away 21 ≡ unless-silent (silent a && strictly-between a b (instant u)) (leg a b (instant u))
+  leg-silent h = rw (sym heard-test ∙ h) refl
+
+  pub leg-heard : q && (ltb s u && ltb u e) ≡ false → gives (beside (leg a b (instant u))) ≡ unless-silent (silent a && strictly-between a b (instant u)) (leg a b (instant u))
+  leg-heard h = rw (sym heard-test ∙ h) refl
 
 -- ---- one axis of a place: i·d + (j − i)·s, of places within the widest limit and times of 32 bits
 pub record NumeratorFits (i j : ℤ) (d s : ℕ) : Type 0 where

@@ -7,15 +7,17 @@ use Rattle.distance.specs.Fix.{Fix}
 use Rattle.distance.specs.Tenfold.{tenfold-fix, tenfold-place}
 use Rattle.distance.specs.Laws.All.{all-none, all-more}
 use Rattle.distance.specs.Laws.Tenfold.{place-scaled}
+use Rattle.distance.specs.Laws.Silence.{silence-changed}
 use Rattle.format.specs.Format.{fixes}
-use Rattle.record.specs.Checks.{bad-moment, sentence, refusal-of, placing, moment-outside}
+use Rattle.record.specs.Checks.{bad-moment, moment-in-silence, sentence, refusal-of, placing, moment-outside}
 use Rattle.record.specs.Answers.{answer, SameAnswer}
 use Rattle.record.specs.Tenfold.{Tenfold}
 use Rattle.record.specs.Laws.Changed.{ends-changed}
 use Rattle.record.specs.Laws.Tenfold.{tenfold-refusal}
 use Rattle.moment.specs.Moment.{asked-moment, at-moment, beside, place-answer}
 use Rattle.moment.specs.Tenfold.{TenfoldPlace}
-use Rattle.moment.specs.Laws.Moment.{moment, moment-is}
+use Rattle.distance.specs.Place.{moment}
+use Rattle.moment.specs.Laws.Moment.{moment-is}
 use Rattle.moment.specs.Laws.Placing.{own-checks, asks-moment}
 
 at-tenfold : (l : List Fix) (s m : ℕ) → at-moment (map tenfold-fix l) s m ≡ tenfold-place (at-moment l s m)
@@ -27,7 +29,8 @@ module _ {b c : List ℕ} (t : Tenfold b c) (s m : ℕ) where
   unfolding sentence
   same-refusal =
       let moment-in : asks-moment c s m bad-moment ≡ asks-moment b s m bad-moment = rw (t .fixes-tenfold) (ends-changed tenfold-fix (moment-outside s m) (moment-outside s m) (λ f g. refl) (fixes b)) in
-      tenfold-refusal t (asked-moment s m) (asked-moment s m) own-checks (all-more refl (all-more moment-in all-none))
+      let silence-in : asks-moment c s m moment-in-silence ≡ asks-moment b s m moment-in-silence = rw (t .fixes-tenfold) (silence-changed tenfold-fix (moment s m) (moment s m) (λ a. refl) (λ a. refl) (λ a. refl) (fixes b)) in
+      tenfold-refusal t (asked-moment s m) (asked-moment s m) own-checks (all-more refl (all-more moment-in (all-more silence-in all-none)))
 
   -- THE LAW
   pub place-answer-tenfold : SameAnswer TenfoldPlace (place-answer c s m) (place-answer b s m)

@@ -1,30 +1,23 @@
 -- A question after a list of agings: thinning keeps the first and the last fix, so that whether the question is refused is the same before and after.
 use mathlib.Core.Path.{_≡_, refl, sym, _∙_, ap}
-use mathlib.Core.Bool.{Bool}
 use mathlib.Core.List.{List, [], _∷_}
 use mathlib.Core.Option.{Option, some, none}
 use Prim.Native.Nat.{ℕ, _≤_}
-use Rattle.distance.specs.Fix.{Fix}
 use Rattle.distance.specs.Box.{Box}
 use Rattle.format.specs.Kinds.{Kind}
 use Rattle.format.specs.Format.{kind-of, fixes}
 use Rattle.format.specs.Laws.RoundTrip.{AreBytes}
-use Rattle.record.specs.Checks.{IsAccepted, sentence, first, asked-of, of-ends, second-outside, read-refusal}
+use Rattle.record.specs.Checks.{IsAccepted, sentence, first, asked-of, second-outside, read-refusal}
 use Rattle.record.specs.Answers.{Answer, turns-away, answer}
 use Rattle.aging.specs.Aging.{Call, applies, record-at, thinned-record}
-use Rattle.thinning.specs.Laws.Trail.{SameEnds, no-fixes, same-ends, ends-stay}
-use Rattle.aging.specs.Laws.Step.{thins, step, applies-low}
+use Rattle.thinning.specs.Laws.Kept.{SameEnds}
+use Rattle.thinning.specs.Laws.Trail.{ends-stay}
+use Rattle.aging.specs.Laws.Step.{ends-same, thins, step, applies-low}
 use Rattle.legs.specs.declared.Fraction.{Fraction}
 use Rattle.crossing.specs.Crossing.{asked-crossing, cross-refusal, cross-answer, first-crossing}
 use Rattle.crossing.specs.Laws.Checking.{asks-crossing, own-checks, two-left}
 use Rattle.questions.specs.Agings.{run, after-answer, left-after}
 use Rattle.questions.specs.Laws.Agings.{run-refused}
-
--- what is asked of the ends of a trail is the same of what is kept
-ends-same : (test : Fix → Fix → Bool) {l k : List Fix} → SameEnds l k → of-ends test k ≡ of-ends test l
-unfolding of-ends
-ends-same test no-fixes = refl
-ends-same test (same-ends {i} h) = ap (test i) h
 
 module _ (s e : ℕ) (box : Box) where
   -- checks 13 and 14 ask the same of two buffers whose trails begin and end alike

@@ -10,6 +10,7 @@ use lib.Dec.{ltb}
 use lib.ListN.{length}
 use Rattle.distance.specs.Fix.{Fix, Rising, last-of}
 use Rattle.distance.specs.Place.{Proper, Time, From, Until, place, Near}
+use Rattle.distance.specs.Silence.{in-silence, OutsideSilences}
 use Rattle.distance.specs.Box.{Box, In, NearBox, NearSide}
 use Rattle.distance.specs.Laws.Box.{told, denied}
 use Rattle.distance.specs.Laws.Place.{place-proper}
@@ -21,11 +22,12 @@ use Rattle.record.specs.Laws.First.{first-exactly, NoneHolds, and-not, none-hol
 use Rattle.format.specs.Laws.RoundTrip.{AreBytes}
 use Rattle.record.specs.Laws.Accepted.{accepted-good, times-good}
 use Rattle.aging.specs.Aging.{Call}
-use Rattle.thinning.specs.Laws.Trail.{SameEnds, no-fixes, same-ends, ends-stay, kept-rising}
+use Rattle.thinning.specs.Laws.Kept.{SameEnds, no-fixes, same-ends}
+use Rattle.thinning.specs.Laws.Trail.{ends-stay, kept-rising, silent-as-before}
 use Rattle.legs.specs.declared.Fraction.{Fraction}
 use Rattle.crossing.specs.Crossing.{Told, Denied, Means, after-first, asked-crossing, cross-answer, first-crossing}
 use Rattle.questions.specs.Agings.{new-book, run, kept-at, counts-as, AskedOf}
-use Rattle.questions.specs.Claim.{CrossingSays, says-refused, says-told, says-denied, book, Claim}
+use Rattle.questions.specs.Claim.{CrossingSays, says-refused, says-told, says-denied, book, bound-after, Claim}
 use Rattle.questions.specs.Laws.Asked.{asked-after}
 use Rattle.questions.specs.Laws.Agings.{agings, kept-near, original-stays}
 use Rattle.crossing.specs.Laws.Crossing.{GoodWindow}
@@ -42,6 +44,12 @@ kept-rises : (E : Option ℕ) (l : List Fix) → Rising l → Rising (kept-at E 
 unfolding kept-at
 kept-rises none l h = h
 kept-rises (some E) l h = kept-rising E l h
+
+-- and is silent when the original is
+kept-silences : (E : Option ℕ) (l : List Fix) (u : Time) → in-silence (kept-at E l) u ≡ in-silence l u
+unfolding kept-at
+kept-silences none l u = refl
+kept-silences (some E) l u = silent-as-before E l u
 
 -- a time of a window that lies in the kept trail's times is asked of the original
 asked-in : {l : List Fix} {a : Fix} {k : List Fix} → SameEnds l (a ∷ k) → (s e : ℕ) → GoodWindow s e (a .t) ((last-of a k) .t) → (u : Time) → From s u → Until e u → AskedOf l u
@@ -76,13 +84,22 @@ module _ (E : Option ℕ) (l m : List Fix) (rises : Rising l) (is : m ≡ kept-a
   proper-then : (u : Time) → Proper (place m u)
   proper-then u = place-proper u (rw is (kept-rises E l rises))
 
+  heard-then : (u : Time) → OutsideSilences m u → OutsideSilences l u
+  heard-then u h = record { outside-silences = sym (kept-silences E l u) ∙ rw (← is) (h .outside-silences) }
+
+  heard-still : (u : Time) → OutsideSilences l u → OutsideSilences m u
+  heard-still u h = record { outside-silences = rw is (kept-silences E l u ∙ h .outside-silences) }
+
+  told-heard : {limit : ℕ} (n d : ℕ) (t : Told limit m box s e n d) → OutsideSilences l (after-first m n d (t .some-denominator))
+  told-heard n d t = heard-then (after-first m n d (t .some-denominator)) (t .crosses .heard)
+
   told-near : {limit : ℕ} (n d : ℕ) (t : Told limit m box s e n d) → NearBox (counts-as E) box (place l (after-first m n d (t .some-denominator)))
   told-near n d t =
       let u = after-first m n d (t .some-denominator) in
       told (counts-as E) box (place l u) (place m u) (near-then u (t .crosses .opened) (t .crosses .closed)) (proper-then u) (t .crosses .inside)
 
-  denied-near : Denied m box s e → (u : Time) → From s u → Until e u → In box (place l u) → NearSide (counts-as E) box (place l u)
-  denied-near never-in u f t i = denied (near-then u f t) (place-proper u rises) (proper-then u) box i (λ j. never-in u (record { opened = f; closed = t; inside = j }))
+  denied-near : Denied m box s e → (u : Time) → From s u → Until e u → OutsideSilences l u → In box (place l u) → NearSide (counts-as E) box (place l u)
+  denied-near never-in u f t h i = denied (near-then u f t) (place-proper u rises) (proper-then u) box i (λ j. never-in u (record { opened = f; closed = t; heard = heard-still u h; inside = j }))
 
 -- ---- the crossing's answer on a trail that was kept at E
 module _ (E : Option ℕ) (l : List Fix) (c : List ℕ) (rises : Rising l) (a : IsAccepted c) (is : fixes c ≡ kept-at E l) (s e : ℕ) (box : Box) where
@@ -96,7 +113,7 @@ module _ (E : Option ℕ) (l : List Fix) (c : List ℕ) (rises : Rising l) (a : 
   some-fix-left = let g = accepted-good c a .head in omega (arith, g .some-fix, length-each (fix-at (kind-of c) c) 0 (count-field c))
 
   say : window-bad m s e ≡ false → (o : Option Fraction) → Means (kind-of c .limit) m box s e o → CrossingSays (counts-as E) l c s e box (gives o)
-  say w (some f) t = says-told t (told-near E l m rises is some-fix-left s e box w (f .num) (f .den) t)
+  say w (some f) t = says-told t (told-heard E l m rises is some-fix-left s e box w (f .num) (f .den) t) (told-near E l m rises is some-fix-left s e box w (f .num) (f .den) t)
   say w none d = says-denied d (denied-near E l m rises is some-fix-left s e box w d)
 
   window-false : NoneHolds (sentence (kind-of c) q) (bad-window ∷ bad-box ∷ []) → window-bad m s e ≡ false
@@ -127,21 +144,32 @@ claim b calls bytes a never-thinned =
       same-size = s .same-size;
       rest = s .rest;
       denominators = λ u. (rw o (place-proper u rises), rw (s .exactly) (place-proper u (kept-rises ((book b calls) .E) (fixes b) rises)));
-      near = λ u t. rw (o, s .exactly) (kept-near ((book b calls) .E) (fixes b) u rises (rw o at t));
+      same-silences = λ u. rw (o, s .exactly) (kept-silences ((book b calls) .E) (fixes b) u);
+      near = λ u t h. rw (o, s .exactly) (kept-near ((book b calls) .E) (fixes b) u rises (rw o at t));
       asked-then = λ t e box. asked-after t e box b calls bytes;
       crossings = λ t e box. rw o (crossing-says ((book b calls) .E) (fixes b) (run b calls) rises (s .still-accepted) (s .exactly) t e box);
     }
 
+-- ---- WHAT THE CLAIM GIVES of distance, at every time from the first fix to the last outside silences, and of the silences themselves
+module _ {b : List ℕ} {calls : List Call} (c : Claim b calls) (u : Time) where
+  pub distance-gives : AskedOf ((book b calls) .original) u → OutsideSilences ((book b calls) .original) u
+      → Near (bound-after b calls) (place ((book b calls) .original) u) (place (fixes (run b calls)) u)
+  distance-gives t h = c .near u t h
+
+  pub silences-give : in-silence (fixes (run b calls)) u ≡ in-silence ((book b calls) .original) u
+  silences-give = c .same-silences u
+
 -- ---- WHAT THE CLAIM'S ANSWER GIVES, by matching on all that `CrossingSays` can be: another way to say an answer would leave a case open here
 module _ {E : ℕ} {original : List Fix} {c : List ℕ} {s e : ℕ} {box : Box} where
-  -- told: the time is of the window, no earlier one crosses, and at that time the original is at most E from a place in the box
+  -- told: the time is of the window, no earlier one crosses, and at that time, outside its silences, the original is at most E from a place in the box
   pub told-gives : {f : Fraction} → CrossingSays E original c s e box (gives (some f))
-      → (t : Told (kind-of c .limit) (fixes c) box s e (f .num) (f .den)) × NearBox E box (place original (after-first (fixes c) (f .num) (f .den) (t .some-denominator)))
-  told-gives (says-told t n) = (t, n)
+      → (t : Told (kind-of c .limit) (fixes c) box s e (f .num) (f .den)) × OutsideSilences original (after-first (fixes c) (f .num) (f .den) (t .some-denominator))
+      × NearBox E box (place original (after-first (fixes c) (f .num) (f .den) (t .some-denominator)))
+  told-gives (says-told t h n) = (t, h, n)
 
-  -- denied: no time of the window crosses, and whenever in the window the original is in the box, it is at most E from one of its sides
+  -- denied: no time of the window crosses, and whenever in the window, outside its silences, the original is in the box, it is at most E from one of its sides
   pub denied-gives : CrossingSays E original c s e box (gives none)
-      → Denied (fixes c) box s e × ((u : Time) → From s u → Until e u → In box (place original u) → NearSide E box (place original u))
+      → Denied (fixes c) box s e × ((u : Time) → From s u → Until e u → OutsideSilences original u → In box (place original u) → NearSide E box (place original u))
   denied-gives (says-denied d n) = (d, n)
 
   -- refused: the number is that of the first of checks 13 and 14 whose sentence holds

@@ -17,32 +17,36 @@ use Rattle.distance.specs.Integers.Differences.{diffs}
 use Rattle.distance.specs.Integers.Order.{ltZ-false, le-of-ltZ}
 use Rattle.format.specs.Kinds.{Kind, kinds, coded}
 use Rattle.format.specs.Format.{kind-of, record-length, fix-at, record-bytes, length-field, mark-field, count-field, fixes}
-use Rattle.record.specs.Checks.{Asked, read-refusal, few-bytes, other-kind, bad-count, bad-length, short-record, bad-mark, sentence, first, head-checks, fix-checks, asked-of, nothing, IsAccepted, outside, fix-outside, some-outside, some-early-after, some-early, of-ends, too-long}
+use Rattle.record.specs.Checks.{Asked, read-refusal, few-bytes, other-kind, bad-count, bad-length, short-record, bad-mark, sentence, first, head-checks, fix-checks, asked-of, nothing, IsAccepted, outside, fix-outside, some-outside, some-early-after, some-early, other-silence, some-other-silence, last-silent, of-ends, too-long}
 use Rattle.record.specs.Laws.First.{passes, NoneHolds, no-check, and-not, none-holds, none-first, first-none}
-use Rattle.record.specs.Laws.Head.{Head, says, neither, accepted-head, not-few, not-other, count-good, length-same, not-short, mark-low, mark-never, mark-says, from-2, from-3, from-4, from-5, from-6, head-none}
+use Rattle.record.specs.Laws.Head.{Head, says, accepted-head, not-few, not-other, count-good, length-same, not-short, mark-low, mark-never, mark-says, from-2, from-3, from-4, from-5, from-6, head-none}
 use Rattle.format.specs.Laws.Kinds.{kind-code, longer}
 use Rattle.format.specs.Laws.Numbers.{false-true}
 use Rattle.format.specs.Laws.RoundTrip.{Reads, AreBytes, number-below, rewrites}
 use Rattle.record.specs.Reading.{yields, moves, begins, past-every-fix, told-refusal}
 use Rattle.record.specs.Laws.Reading.{stands-if, stands-past, yields-some, yields-none, moves-not, moves-to-next, tells-accepted, tells-refusal}
-use Rattle.distance.specs.Integers.Tests.{Test, holds, fails, test}
+use Rattle.distance.specs.Integers.Tests.{Test, holds, fails, test, neither}
 
--- ---- the fixes: checks 7 to 9 turn none away
+-- ---- the fixes: checks 7 to 9 and 20 turn none away
 pub record GoodFixes (limit : ℕ) (l : List Fix) : Type 0 where
   pub inside : some-outside limit l ≡ false
   pub ordered : some-early l ≡ false
   pub short : of-ends too-long l ≡ false
+  pub known-silences : some-other-silence l ≡ false
+  pub heard-last : of-ends last-silent l ≡ false
 
 pub fixes-good : (K : Kind) (q : Asked) → first (sentence K q) fix-checks ≡ none → GoodFixes (K .limit) (q .trail-fixes)
 unfolding sentence
 fixes-good K q h = go (none-holds (sentence K q) fix-checks h)
   where
     go : NoneHolds (sentence K q) fix-checks → GoodFixes (K .limit) (q .trail-fixes)
-    go (and-not h7 (and-not h8 (and-not h9 no-check))) = record { inside = h7; ordered = h8; short = h9 }
+    go (and-not h7 (and-not h8 (and-not h9 (and-not h20 no-check)))) =
+        let s = neither (some-other-silence (q .trail-fixes)) (of-ends last-silent (q .trail-fixes)) h20 in
+        record { inside = h7; ordered = h8; short = h9; known-silences = s .0; heard-last = s .1 }
 
 pub good-fixes : (K : Kind) (q : Asked) → GoodFixes (K .limit) (q .trail-fixes) → first (sentence K q) fix-checks ≡ none
 unfolding first sentence
-good-fixes K q h = rw (h .inside, h .ordered, h .short) refl
+good-fixes K q h = rw (h .inside, h .ordered, h .short, h .known-silences, h .heard-last) refl
 
 -- ---- the mark
 pub data GoodMark (top m : ℕ) : Type 0 where
@@ -101,7 +105,7 @@ accept {K} {mark} {l} b r known m one few whole g =
     ∙ passes (says b) bad-mark [] (mark-passes b reads-mark) ∙ first-none (says b) in
     record { accepted = none-first (says b) head-checks fix-checks head ∙ good-fixes (kind-of b) (asked-of b nothing) (rw (r .fixes-read, kind) g) }
 
--- ---- the three checks of the fixes, as the layers above use them: places within the limit, times that rise, and a short span
+-- ---- the checks of the fixes, as the layers above use them: places within the limit, times that rise, and a short span
 place-good : (limit : ℕ) (f : Fix) → fix-outside limit f ≡ false → Bounded limit f
 place-good limit f h =
     let xy = neither (outside limit (f .x)) (outside limit (f .y)) h in
@@ -121,6 +125,16 @@ pub good-places : (limit : ℕ) {l : List Fix} → All (Bounded limit) l → som
 unfolding some-outside
 good-places limit all-none = refl
 good-places limit (all-more {m = f} h t) = rw (good-place limit f h) (good-places limit t)
+
+pub silences-good : (l : List Fix) → some-other-silence l ≡ false → All (λ (f : Fix). other-silence f ≡ false) l
+unfolding some-other-silence
+silences-good [] h = all-none
+silences-good (f ∷ l) h = let n = neither (other-silence f) (some-other-silence l) h in all-more (n .0) (silences-good l (n .1))
+
+pub good-silences : {l : List Fix} → All (λ (f : Fix). other-silence f ≡ false) l → some-other-silence l ≡ false
+unfolding some-other-silence
+good-silences all-none = refl
+good-silences (all-more h t) = rw h (good-silences t)
 
 after-good : (t : ℕ) (l : List Fix) → some-early-after t l ≡ false → After t l
 unfolding some-early-after

@@ -9,7 +9,7 @@ use Rattle.distance.specs.Fix.{Fix, last-of}
 use Rattle.distance.specs.Laws.All.{All, all-none, all-more, last-mapped}
 use Rattle.format.specs.Laws.Kinds.{same-kind-of}
 use Rattle.format.specs.Laws.Changed.{SameHead}
-use Rattle.record.specs.Checks.{Check, Given, sentence, first, head-checks, head-refusal, fix-outside, some-outside, some-early-after, some-early, of-ends}
+use Rattle.record.specs.Checks.{Check, Given, sentence, first, head-checks, head-refusal, fix-outside, some-outside, some-early-after, some-early, other-silence, some-other-silence, of-ends}
 use Rattle.record.specs.Laws.First.{some-first, none-first}
 use Rattle.record.specs.Laws.Head.{asks}
 
@@ -57,6 +57,12 @@ module _ (f : Fix → Fix) where
     unfolding some-early
     early-changed [] = refl
     early-changed (a ∷ l) = early-after-changed a l
+
+  -- a silence byte is as it was, if each one is
+  pub silences-changed : ((a : Fix) → other-silence (f a) ≡ other-silence a) → (l : List Fix) → some-other-silence (map f l) ≡ some-other-silence l
+  unfolding some-other-silence
+  silences-changed same [] = refl
+  silences-changed same (a ∷ l) = rw (same a, silences-changed same l) refl
 
   -- and of the first and the last it is said what was said before, if it is of each two
   pub ends-changed : (before after : Fix → Fix → Bool) → ((a b : Fix) → after (f a) (f b) ≡ before a b) → (l : List Fix) → of-ends after (map f l) ≡ of-ends before l

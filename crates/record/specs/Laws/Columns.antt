@@ -10,7 +10,7 @@ use lib.ListN.{length, take, set, length-map}
 use Rattle.distance.specs.Fix.{Fix}
 use Rattle.format.specs.Format.{kind-of, count-field, fix-at, each, fixes}
 use Rattle.format.specs.Laws.Each.{length-each, each-more}
-use Rattle.record.specs.Reading.{filled, times-of, xs-of, ys-of, read-answer, times-read, xs-read, ys-read}
+use Rattle.record.specs.Reading.{filled, times-of, xs-of, ys-of, silences-of, read-answer, times-read, xs-read, ys-read, silences-read}
 use Rattle.record.specs.Checks.{read-refusal, IsAccepted}
 use Rattle.record.specs.Answers.{gives, turns-away}
 
@@ -69,23 +69,24 @@ module _ {A : Type 0} where
       q ∙ rw (p, e, more) (ap (λ (i : ℕ). set (filled column values) i (field (f k))) (sym n) ∙ filled-more column values (field (f k)))
 
 -- ---- the answer and the columns, as the definitions have them: after a refusal, and after the first n fixes were put down, n the record's count
-pub leaves : (b : List ℕ) (ts : List ℕ) (xs ys : List ℤ) (k : ℕ) → read-refusal b ≡ some k
-    → (turns-away k ≡ read-answer b) × (ts ≡ times-read b ts) × (xs ≡ xs-read b xs) × (ys ≡ ys-read b ys)
-leaves b ts xs ys k h = (rw h refl, rw h refl, rw h refl, rw h refl)
+pub leaves : (b : List ℕ) (ts : List ℕ) (xs ys : List ℤ) (silences : List ℕ) (k : ℕ) → read-refusal b ≡ some k
+    → (turns-away k ≡ read-answer b) × (ts ≡ times-read b ts) × (xs ≡ xs-read b xs) × (ys ≡ ys-read b ys) × (silences ≡ silences-read b silences)
+leaves b ts xs ys silences k h = (rw h refl, rw h refl, rw h refl, rw h refl, rw h refl)
 
-pub fills : (b : List ℕ) (ts : List ℕ) (xs ys : List ℤ) {n : ℕ} {us : List ℕ} {vs ws : List ℤ} → read-refusal b ≡ none → n ≡ count-field b
+pub fills : (b : List ℕ) (ts : List ℕ) (xs ys : List ℤ) (silences : List ℕ) {n : ℕ} {us : List ℕ} {vs ws : List ℤ} {zs : List ℕ} → read-refusal b ≡ none → n ≡ count-field b
     → us ≡ filled ts (times-of (each (fix-at (kind-of b) b) 0 n)) → vs ≡ filled xs (xs-of (each (fix-at (kind-of b) b) 0 n)) → ws ≡ filled ys (ys-of (each (fix-at (kind-of b) b) 0 n))
-    → (gives n ≡ read-answer b) × (us ≡ times-read b ts) × (vs ≡ xs-read b xs) × (ws ≡ ys-read b ys)
-fills b ts xs ys h e p q r = (rw (h, e) refl, p ∙ rw (h, e) refl, q ∙ rw (h, e) refl, r ∙ rw (h, e) refl)
+    → zs ≡ filled silences (silences-of (each (fix-at (kind-of b) b) 0 n)) → (gives n ≡ read-answer b) × (us ≡ times-read b ts) × (vs ≡ xs-read b xs) × (ws ≡ ys-read b ys) × (zs ≡ silences-read b silences)
+fills b ts xs ys silences h e p q r z = (rw (h, e) refl, p ∙ rw (h, e) refl, q ∙ rw (h, e) refl, r ∙ rw (h, e) refl, z ∙ rw (h, e) refl)
 
--- ---- columns of exactly the count's length then hold exactly the times, the x and the y of all fixes
+-- ---- columns of exactly the count's length then hold exactly the times, the x, the y and the silences of all fixes
 field-exactly : {A : Type 0} (field : Fix → A) (b : List ℕ) (column : List A) → length column ≡ count-field b → filled column (map field (fixes b)) ≡ map field (fixes b)
 field-exactly field b column h = filled-exactly column (map field (fixes b)) (h ∙ sym (length-map (fixes b) field ∙ length-each (fix-at (kind-of b) b) 0 (count-field b)))
 
-pub reads-exactly : (b : List ℕ) (ts : List ℕ) (xs ys : List ℤ) → IsAccepted b → length ts ≡ count-field b → length xs ≡ count-field b → length ys ≡ count-field b
-    → (times-read b ts ≡ times-of (fixes b)) × (xs-read b xs ≡ xs-of (fixes b)) × (ys-read b ys ≡ ys-of (fixes b))
-reads-exactly b ts xs ys a p q r = (
+pub reads-exactly : (b : List ℕ) (ts : List ℕ) (xs ys : List ℤ) (silences : List ℕ) → IsAccepted b → length ts ≡ count-field b → length xs ≡ count-field b → length ys ≡ count-field b → length silences ≡ count-field b
+    → (times-read b ts ≡ times-of (fixes b)) × (xs-read b xs ≡ xs-of (fixes b)) × (ys-read b ys ≡ ys-of (fixes b)) × (silences-read b silences ≡ silences-of (fixes b))
+reads-exactly b ts xs ys silences a p q r z = (
   rw (a .accepted) (field-exactly (λ (f : Fix). f .t) b ts p),
   rw (a .accepted) (field-exactly (λ (f : Fix). f .x) b xs q),
   rw (a .accepted) (field-exactly (λ (f : Fix). f .y) b ys r),
+  rw (a .accepted) (field-exactly (λ (f : Fix). f .silence) b silences z),
 )

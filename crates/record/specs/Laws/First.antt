@@ -13,8 +13,8 @@ use Rattle.record.specs.Checks.{Check, Given, Asked, number, order, firs
 pub some-none : {k : ℕ} → some k ≡ none → ⊥
 some-none e = let z : _≡_ {A = ℕ} 0 1 = cc in omega arith
 
--- the checks in their order have document 01's numbers
-pub order-numbers : map number order ≡ 1 ∷ 2 ∷ 3 ∷ 4 ∷ 5 ∷ 6 ∷ 7 ∷ 8 ∷ 9 ∷ 10 ∷ 11 ∷ 12 ∷ 13 ∷ 14 ∷ 15 ∷ []
+-- the checks in their order have the documents' numbers
+pub order-numbers : map number order ≡ 1 ∷ 2 ∷ 3 ∷ 4 ∷ 5 ∷ 6 ∷ 7 ∷ 8 ∷ 9 ∷ 20 ∷ 10 ∷ 11 ∷ 12 ∷ 21 ∷ 13 ∷ 14 ∷ 15 ∷ []
 order-numbers = refl
 
 module _ (says : Check → Bool) where

@@ -1,6 +1,6 @@
 -- Checks 1 to 6, which ask for a record's head.
 use mathlib.Core.Path.{_≡_, refl, ap}
-use mathlib.Core.Bool.{Bool, true, false, not, _||_, _&&_}
+use mathlib.Core.Bool.{Bool, true, false, not, _&&_}
 use mathlib.Core.List.{List, [], _∷_}
 use mathlib.Core.Option.{none}
 use Prim.Native.Nat.{ℕ, zero, suc, _<_, _≤_}
@@ -8,6 +8,7 @@ use native.Mathlib.Omega.{arith}
 use lib.Dec.{ltb, eqb}
 use lib.ListN.{length}
 use borrow.Author.Tests.{lt-ltb, le-ltb, eq-eqb, ne-eqb, ltb-false, eqb-true, eqb-false, not-false}
+use Rattle.distance.specs.Integers.Tests.{neither}
 use Rattle.format.specs.Kinds.{kinds, coded}
 use Rattle.format.specs.Format.{length-field, kind-field, mark-field, count-field, kind-of, record-length}
 use Rattle.record.specs.Checks.{Check, few-bytes, other-kind, bad-count, bad-length, short-record, bad-mark, sentence, Given, asked-of, nothing, head-checks, fix-checks, read-refusal, head-refusal}
@@ -110,13 +111,6 @@ pub record Head (b : List ℕ) : Type 0 where
   pub few-fixes : count-field b ≤ 4096
   pub length-is : length-field b ≡ record-length (kind-of b) (count-field b)
   pub whole : record-length (kind-of b) (count-field b) ≤ length b
-
-pub neither : (x y : Bool) → x || y ≡ false → (x ≡ false) × (y ≡ false)
-neither true y h = absurd (true-false h)
-  where
-    true-false : true ≡ false → ⊥
-    true-false e = let z : _≡_ {A = ℕ} 0 1 = cc in omega arith
-neither false y h = (refl, h)
 
 pub positive : (n : ℕ) → (n ≡ 0 → ⊥) → 1 ≤ n
 positive zero f = absurd (f refl)

@@ -16,15 +16,15 @@ use Rattle.format.specs.Format.{kind-of, count-field, fixes}
 use Rattle.format.specs.Laws.Kinds.{kind-of-is, same-kind-of}
 use Rattle.format.specs.Laws.RoundTrip.{AreBytes, InRange, bytes-in-range}
 use Rattle.format.specs.Laws.Changed.{SameHead, same-head-swap, changed-head, changed-bytes, changed-in-range}
-use Rattle.record.specs.Checks.{Check, Given, misplaced, unordered, long-span, sentence, first, nothing, head-checks, fix-checks, head-refusal, too-long, IsAccepted}
+use Rattle.record.specs.Checks.{Check, Given, misplaced, unordered, long-span, bad-silence, sentence, first, nothing, head-checks, fix-checks, head-refusal, too-long, last-silent, IsAccepted}
 use Rattle.record.specs.Moved.{moved-record, Movable}
 use Rattle.record.specs.Laws.Head.{asks, head-none, head-passed}
-use Rattle.record.specs.Laws.Changed.{head-same, changed-refusal, outside-changed, early-changed, ends-changed}
+use Rattle.record.specs.Laws.Changed.{head-same, changed-refusal, outside-changed, early-changed, silences-changed, ends-changed}
 
 -- ---- the fixes of a moved record
 moved-in-range : (K : Kind) (s : ℤ) {l : List Fix} → All (InRange K) l → All (λ (a : Fix). Stays s (a .t)) l → All (InRange K) (map (moved-fix s) l)
 moved-in-range K s all-none all-none = all-none
-moved-in-range K s (all-more {m = a} h t) (all-more k u) = all-more (record { t32 = moved-fits s (a .t) k; x-in = h .x-in; y-in = h .y-in }) (moved-in-range K s t u)
+moved-in-range K s (all-more {m = a} h t) (all-more k u) = all-more (record { t32 = moved-fits s (a .t) k; x-in = h .x-in; y-in = h .y-in; silence-in = h .silence-in }) (moved-in-range K s t u)
 
 pub moved-fixes : (s : ℤ) (b : List ℕ) → AreBytes b → Movable s b → head-refusal b ≡ none → fixes (moved-record s b) ≡ map (moved-fix s) (fixes b)
 moved-fixes s b bytes stay h = changed-in-range (moved-fix s) b (head-passed b h .whole) (moved-in-range (kind-of b) s (bytes-in-range (kind-of b) (kind-of-is b) b bytes 0 (count-field b)) (stay .all-stay h))
@@ -62,7 +62,7 @@ either-way F alike (negsuc k) b bytes stay start end from to =
     let e = alike (suc k) c b (moved-earlier k b bytes stay) (changed-bytes (moved-fix (negsuc k)) b bytes) bytes (moved (negsuc k) start) (moved (negsuc k) end) in
     sym (rw (later-again k start from, later-again k end to) at e)
 
--- ---- THE REFUSAL is as before: checks 1 to 6 look at the head, 7 to 9 say the same of later fixes, and so must those of the call
+-- ---- THE REFUSAL is as before: checks 1 to 6 look at the head, 7 to 9 and 20 say the same of later fixes, and so must those of the call
 module _ (k : ℕ) (b c : List ℕ) (l : Later k b c) (g h : Given) where
   same-fix-checks : head-refusal b ≡ none → All (λ (q : Check). asks c h q ≡ asks b g q) fix-checks
   unfolding sentence
@@ -74,7 +74,8 @@ module _ (k : ℕ) (b c : List ℕ) (l : Later k b c) (g h : Given) where
       let places : asks c h misplaced ≡ asks b g misplaced = rw (e, kind) (outside-changed f (kind-of b .limit) (all-always (λ (a : Fix). refl) m)) in
       let order : asks c h unordered ≡ asks b g unordered = rw e (early-changed f (λ a d. leb-more k (d .t) (a .t)) m) in
       let span : asks c h long-span ≡ asks b g long-span = rw e (ends-changed f too-long too-long (λ a d. ap (ltZ (pos 65535)) (seconds-later k a d)) m) in
-      all-more places (all-more order (all-more span all-none))
+      let silences : asks c h bad-silence ≡ asks b g bad-silence = rw (e, silences-changed f (λ a. refl) m, ends-changed f last-silent last-silent (λ a d. refl) m) refl in
+      all-more places (all-more order (all-more span (all-more silences all-none)))
 
   pub later-refusal : (own : List Check) → (head-refusal b ≡ none → All (λ (q : Check). asks c h q ≡ asks b g q) own)
       → first (asks c h) (head-checks ++ (fix-checks ++ own)) ≡ first (asks b g) (head-checks ++ (fix-checks ++ own))

@@ -1,6 +1,6 @@
 -- The reader at a position: where a fix stands, what is yielded there, and what it says of the checks.
 use mathlib.Core.Path.{_≡_, refl, _∙_}
-use mathlib.Core.Bool.{Bool, true, false, cond, _&&_}
+use mathlib.Core.Bool.{true, false, cond, _&&_, and-false}
 use mathlib.Core.List.{List}
 use mathlib.Core.Option.{Option, some, none}
 use Prim.Native.Nat.{ℕ, suc, _+_, _<_, _≤_}
@@ -12,16 +12,9 @@ use borrow.Author.Tests.{lt-ltb, le-ltb, lt-leb, le-leb, ltb-true, leb-true}
 use Rattle.format.specs.Kinds.{kinds, coded}
 use Rattle.format.specs.Format.{kind-field, kind-of, record-length, count-field, fix-at}
 use Rattle.format.specs.Laws.Kinds.{longer}
+use Rattle.distance.specs.Integers.Tests.{both}
 use Rattle.record.specs.Checks.{read-refusal}
 use Rattle.record.specs.Reading.{stands, yields, moves, past-every-fix, position-for, begins, told-refusal}
-
-and-false : (x : Bool) → x && false ≡ false
-and-false true = refl
-and-false false = refl
-
-both : (x y : Bool) → x && y ≡ true → (x ≡ true) × (y ≡ true)
-both true y h = (refl, h)
-both false y h = absurd (let z : _≡_ {A = ℕ} 0 1 = cc in omega arith)
 
 module _ (b : List ℕ) (k : ℕ) where
   pub stands-short : length b < record-length (kind-of b) (suc k) → stands b k ≡ false

@@ -32,7 +32,7 @@ module _ (b c : List ℕ) (n : ℕ) (agree : take n b ≡ take n c) where
       let w = K .width in
       let more = one-more K k in
       let size = is .size-is in
-      rw (same-number at 4 (omega arith), same-number (at + 4) w (omega arith), same-number (at + 4 + w) w (omega arith)) refl
+      rw (same-number at 4 (omega arith), same-number (at + 4) w (omega arith), same-number (at + 4 + w) w (omega arith), same-number (at + 4 + w + w) (K .silence-width) (omega arith)) refl
 
   -- .. and the second reaches as far, if the first does
   reaches : n ≤ length b → n ≤ length c

@@ -1,6 +1,6 @@
--- Checks 7 to 9 in one pass over the fixes: what the passed ones have said so far.
+-- Checks 7 to 9 and 20 in one pass over the fixes: what the passed ones have said so far.
 use mathlib.Core.Path.{_≡_, refl, sym, _∙_, ap}
-use mathlib.Core.Bool.{Bool, true, false, _||_}
+use mathlib.Core.Bool.{Bool, true, false, _||_, or-assoc, or-false}
 use mathlib.Core.List.{List, [], _∷_, _++_}
 use mathlib.Core.Option.{some, none}
 use Prim.Native.Nat.{ℕ, suc, _+_, _-_, _<_, _≤_}
@@ -14,6 +14,7 @@ use mir.Facts.{toZ-pos}
 use lib.ListN.{length}
 use Rattle.distance.specs.Fix.{Fix, last-of}
 use Rattle.distance.specs.Distance.{seconds}
+use Rattle.distance.specs.Silence.{silent}
 use Rattle.distance.specs.Laws.All.{All, all-none, all-more, all-append, last-more}
 use Rattle.distance.specs.Integers.Differences.{diffs}
 use Rattle.distance.specs.Integers.Order.{ltZ-true, ltZ-false}
@@ -21,7 +22,7 @@ use Rattle.distance.specs.Integers.Bounds.{Bound, _⊝_, fits}
 use Rattle.record.specs.declared.Scan.{Scan}
 use Rattle.format.specs.Kinds.{Kind}
 use Rattle.format.specs.Format.{each}
-use Rattle.record.specs.Checks.{Asked, misplaced, unordered, long-span, first, sentence, outside, fix-outside, some-outside, some-early-after, some-early, of-ends, too-long, fix-checks}
+use Rattle.record.specs.Checks.{Asked, misplaced, unordered, long-span, bad-silence, first, sentence, outside, fix-outside, some-outside, some-early-after, some-early, other-silence, some-other-silence, of-ends, too-long, fix-checks}
 use Rattle.format.specs.Laws.Each.{each-more}
 use Rattle.record.specs.Laws.First.{stops, passes}
 
@@ -63,17 +64,11 @@ from-zero n = +ℤ-idl (negℤ (pos n))
 pub record Scanned (limit : ℕ) (a : Fix) (l : List Fix) (s : Scan) : Type 0 where
   pub outside-is : s .outside ≡ some-outside limit (a ∷ l)
   pub early-is : s .early ≡ some-early (a ∷ l)
+  pub other-is : s .other ≡ some-other-silence (a ∷ l)
   pub first-is : s .first .0 ≡ a .t
   pub last-is : s .last .0 ≡ (last-of a l) .t
+  pub silent-is : s .silent ≡ silent (last-of a l)
   pub timed : All Timed (a ∷ l)
-
-or-assoc : (x y z : Bool) → (x || y) || z ≡ x || (y || z)
-or-assoc true y z = refl
-or-assoc false y z = refl
-
-or-false : (x : Bool) → x || false ≡ x
-or-false true = refl
-or-false false = refl
 
 -- one fix more, at the end
 outside-more : (limit : ℕ) (l : List Fix) (f : Fix) → some-outside limit (l ++ f ∷ []) ≡ some-outside limit l || fix-outside limit f
@@ -86,18 +81,34 @@ unfolding some-early-after last-of
 early-more a [] f = or-false _
 early-more a (b ∷ l) f = ap (λ (t : Bool). leb (b .t) (a .t) || t) (early-more b l f) ∙ sym (or-assoc (leb (b .t) (a .t)) (some-early-after (b .t) l) (leb (f .t) ((last-of b l) .t)))
 
-pub scanned-first : (limit : ℕ) (a : Fix) (s : Scan) → s .outside ≡ fix-outside limit a → s .early ≡ false → s .first .0 ≡ a .t → s .last .0 ≡ a .t → a .t < 4294967296 → Scanned limit a [] s
-unfolding some-outside some-early some-early-after last-of
-scanned-first limit a s p q r t h = record { outside-is = p ∙ sym (or-false _); early-is = q; first-is = r; last-is = t; timed = all-more (record { t32 = h }) all-none }
+silence-more : (l : List Fix) (f : Fix) → some-other-silence (l ++ f ∷ []) ≡ some-other-silence l || other-silence f
+unfolding some-other-silence
+silence-more [] f = or-false _
+silence-more (a ∷ l) f = ap (λ (t : Bool). other-silence a || t) (silence-more l f) ∙ sym (or-assoc (other-silence a) (some-other-silence l) (other-silence f))
+
+pub scanned-first : (limit : ℕ) (a : Fix) (s : Scan) → s .outside ≡ fix-outside limit a → s .early ≡ false → s .other ≡ other-silence a → s .first .0 ≡ a .t → s .last .0 ≡ a .t
+    → s .silent ≡ silent a → a .t < 4294967296 → Scanned limit a [] s
+unfolding some-outside some-early some-early-after some-other-silence last-of
+scanned-first limit a s p q o r t v h = record {
+  outside-is = p ∙ sym (or-false _);
+  early-is = q;
+  other-is = o ∙ sym (or-false _);
+  first-is = r;
+  last-is = t;
+  silent-is = v;
+  timed = all-more (record { t32 = h }) all-none;
+}
 
 pub scanned-more : (limit : ℕ) (a : Fix) (l : List Fix) (f : Fix) (s r : Scan) → Scanned limit a l s → r .outside ≡ s .outside || fix-outside limit f → r .early ≡ s .early || leb (f .t) (s .last .0)
-    → r .first .0 ≡ s .first .0 → r .last .0 ≡ f .t → f .t < 4294967296 → Scanned limit a (l ++ f ∷ []) r
+    → r .other ≡ s .other || other-silence f → r .first .0 ≡ s .first .0 → r .last .0 ≡ f .t → r .silent ≡ silent f → f .t < 4294967296 → Scanned limit a (l ++ f ∷ []) r
 unfolding some-early
-scanned-more limit a l f s r h p q u v w = record {
+scanned-more limit a l f s r h p q o u v z w = record {
   outside-is = p ∙ ap (λ (t : Bool). t || fix-outside limit f) (h .outside-is) ∙ sym (outside-more limit (a ∷ l) f);
   early-is = q ∙ rw (h .early-is, h .last-is) (sym (early-more a l f));
+  other-is = o ∙ ap (λ (t : Bool). t || other-silence f) (h .other-is) ∙ sym (silence-more (a ∷ l) f);
   first-is = u ∙ h .first-is;
   last-is = v ∙ rw (last-more a l f) refl;
+  silent-is = z ∙ rw (last-more a l f) refl;
   timed = all-append (h .timed) (all-more (record { t32 = w }) all-none);
 }
 
@@ -119,7 +130,7 @@ long-true a b h = ltZ-true {x = pos 65535} {y = seconds a b} (simp diffs (omega 
 long-false : (a b : Fix) → b .t ≤ a .t + 65535 → too-long a b ≡ false
 long-false a b h = ltZ-false {x = pos 65535} {y = seconds a b} (simp diffs (omega arith))
 
--- the three checks of a call whose fixes were passed
+-- the four checks of a call whose fixes were passed
 module _ (K : Kind) (q : Asked) (a : Fix) (l : List Fix) (s : Scan) (is : q .trail-fixes ≡ a ∷ l) (h : Scanned (K .limit) a l s) where
   outside-says : sentence K q misplaced ≡ s .outside
   unfolding sentence
@@ -133,6 +144,10 @@ module _ (K : Kind) (q : Asked) (a : Fix) (l : List Fix) (s : Scan) (is : q .tra
   unfolding sentence of-ends
   long-says b e = rw is e
 
+  silence-says : sentence K q bad-silence ≡ s .other || s .silent
+  unfolding sentence of-ends
+  silence-says = rw (is, h .other-is, h .silent-is) refl
+
   pub says-7 : s .outside ≡ true → first (sentence K q) fix-checks ≡ some 7
   says-7 e = stops _ misplaced _ (outside-says ∙ e)
 
@@ -143,7 +158,16 @@ module _ (K : Kind) (q : Asked) (a : Fix) (l : List Fix) (s : Scan) (is : q .tra
   says-9 e f g = passes _ misplaced _ (outside-says ∙ e) ∙ passes _ unordered _ (early-says ∙ f)
       ∙ stops _ long-span _ (long-says true (long-true a (last-of a l) (omega (arith, h .first-is, h .last-is))))
 
-  pub says-none : s .outside ≡ false → s .early ≡ false → s .last .0 ≤ s .first .0 + 65535 → first (sentence K q) fix-checks ≡ none
+  not-long : s .last .0 ≤ s .first .0 + 65535 → sentence K q long-span ≡ false
+  not-long g = long-says false (long-false a (last-of a l) (omega (arith, h .first-is, h .last-is)))
+
+  reach-20 : s .outside ≡ false → s .early ≡ false → s .last .0 ≤ s .first .0 + 65535 → first (sentence K q) fix-checks ≡ first (sentence K q) (bad-silence ∷ [])
+  reach-20 e f g = passes (sentence K q) misplaced (unordered ∷ long-span ∷ bad-silence ∷ []) (outside-says ∙ e) ∙ passes (sentence K q) unordered (long-span ∷ bad-silence ∷ []) (early-says ∙ f)
+      ∙ passes (sentence K q) long-span (bad-silence ∷ []) (not-long g)
+
+  pub says-20 : s .outside ≡ false → s .early ≡ false → s .last .0 ≤ s .first .0 + 65535 → s .other || s .silent ≡ true → first (sentence K q) fix-checks ≡ some 20
+  says-20 e f g z = reach-20 e f g ∙ stops (sentence K q) bad-silence [] (silence-says ∙ z)
+
+  pub says-none : s .outside ≡ false → s .early ≡ false → s .last .0 ≤ s .first .0 + 65535 → s .other || s .silent ≡ false → first (sentence K q) fix-checks ≡ none
   unfolding first
-  says-none e f g = passes (sentence K q) misplaced (unordered ∷ long-span ∷ []) (outside-says ∙ e) ∙ passes (sentence K q) unordered (long-span ∷ []) (early-says ∙ f)
-      ∙ passes (sentence K q) long-span [] (long-says false (long-false a (last-of a l) (omega (arith, h .first-is, h .last-is))))
+  says-none e f g z = reach-20 e f g ∙ passes (sentence K q) bad-silence [] (silence-says ∙ z)

@@ -18,12 +18,12 @@ use Rattle.format.specs.Laws.Kinds.{is-kind, kind-of-is, is-coded}
 use Rattle.format.specs.Laws.Each.{length-each}
 use Rattle.format.specs.Laws.Layout.{length-record}
 use Rattle.format.specs.Laws.RoundTrip.{AreBytes, InRange, bounded-in-range, bytes-in-range, read-record, record-are-bytes}
-use Rattle.record.specs.Checks.{Check, Given, first, head-checks, fix-checks, too-long, outside, IsAccepted}
+use Rattle.record.specs.Checks.{Check, Given, first, head-checks, fix-checks, too-long, last-silent, outside, IsAccepted}
 use Rattle.record.specs.Tenfold.{tenfold-mark, tenfold-record, Tenfold}
 use Rattle.record.specs.Laws.First.{none-first, reading-alone}
 use Rattle.record.specs.Laws.Head.{asks}
 use Rattle.record.specs.Laws.Accepted.{GoodMark, mark-applied, mark-never-applied, GoodFixes, accepted-good, accept, places-good, good-places}
-use Rattle.record.specs.Laws.Changed.{first-same, early-changed, ends-changed}
+use Rattle.record.specs.Laws.Changed.{first-same, early-changed, silences-changed, ends-changed}
 
 -- ---- the mark
 pub tenfold-mark-never : (m : ℕ) → m ≡ never → tenfold-mark m ≡ never
@@ -35,15 +35,17 @@ unfolding tenfold-mark
 tenfold-mark-applied m h = rw (ne-eqb m never (λ z. omega arith)) refl
 
 -- ---- the fixes
-tenfold-in-range : {K : Kind} {l : List Fix} → All (InRange K) l → All (Bounded (trail .limit)) l → All (InRange millimetre-trail) (map tenfold-fix l)
+tenfold-in-range : {l : List Fix} → All (InRange trail) l → All (Bounded (trail .limit)) l → All (InRange millimetre-trail) (map tenfold-fix l)
 tenfold-in-range all-none all-none = all-none
-tenfold-in-range (all-more h t) (all-more k u) = all-more (bounded-in-range millimetre-trail (is-kind MillimetreTrail) (h .t32) (bounded-scaled 10 k)) (tenfold-in-range t u)
+tenfold-in-range (all-more h t) (all-more k u) = all-more (bounded-in-range millimetre-trail (is-kind MillimetreTrail) (h .t32) (h .silence-in) (bounded-scaled 10 k)) (tenfold-in-range t u)
 
 tenfold-good : (l : List Fix) → GoodFixes (trail .limit) l → GoodFixes (millimetre-trail .limit) (map tenfold-fix l)
 tenfold-good l g = record {
   inside = good-places (millimetre-trail .limit) (all-mapped tenfold-fix (λ m h. bounded-scaled 10 h) (places-good (trail .limit) l (g .inside)));
   ordered = early-changed tenfold-fix (λ a b. refl) l ∙ g .ordered;
   short = ends-changed tenfold-fix too-long too-long (λ a b. refl) l ∙ g .short;
+  known-silences = silences-changed tenfold-fix (λ a. refl) l ∙ g .known-silences;
+  heard-last = ends-changed tenfold-fix last-silent last-silent (λ a b. refl) l ∙ g .heard-last;
 }
 
 -- ---- the record
@@ -57,7 +59,7 @@ module _ (b : List ℕ) (bytes : AreBytes b) (accepted : IsAccepted b) (kind : k
       let g = accepted-good b accepted in
       let trail-good = subst (λ (K : Kind). GoodFixes (K .limit) (fixes b)) kind (g .trail-good) in
       let many : length l ≡ count-field b = length-map (fixes b) tenfold-fix ∙ length-each (fix-at (kind-of b) b) 0 (count-field b) in
-      let ranges = tenfold-in-range (bytes-in-range (kind-of b) (kind-of-is b) b bytes 0 (count-field b)) (places-good (trail .limit) (fixes b) (trail-good .inside)) in
+      let ranges = tenfold-in-range (subst (λ (K : Kind). All (InRange K) (fixes b)) kind (bytes-in-range (kind-of b) (kind-of-is b) b bytes 0 (count-field b))) (places-good (trail .limit) (fixes b) (trail-good .inside)) in
       let few : length l ≤ 4096 = omega (arith, g .head .few-fixes) in
       let r = rw (append-nil (record-bytes K m l)) at (read-record MillimetreTrail m l [] small few ranges) in
       let size = length-record K (is-kind MillimetreTrail) m l in
@@ -81,7 +83,7 @@ pub tenfold-bytes : (b : List ℕ) → AreBytes (tenfold-record b)
 unfolding tenfold-record
 tenfold-bytes b = record-are-bytes millimetre-trail (tenfold-mark (mark-field b)) (map tenfold-fix (fixes b))
 
--- ---- A QUESTION's refusal: checks 1 to 9 turn neither record away, and so its own checks decide
+-- ---- A QUESTION's refusal: the reader's checks turn neither record away, and so its own checks decide
 pub tenfold-refusal : {b c : List ℕ} → Tenfold b c → (g h : Given) (own : List Check) → All (λ (q : Check). asks c h q ≡ asks b g q) own
     → first (asks c h) ((head-checks ++ fix-checks) ++ own) ≡ first (asks b g) ((head-checks ++ fix-checks) ++ own)
 tenfold-refusal {b} {c} t g h own same =

@@ -3,7 +3,7 @@ use mathlib.Core.List.{List}
 use Prim.Native.Nat.{ℕ}
 use borrow.Author.Needs.{needs}
 use denote.Ref.{now}
-use Rattle.format.specs.Kinds.{Kind, trail, millimetre-trail, layout}
+use Rattle.format.specs.Kinds.{Kind, trail, millimetre-trail, silence-trail, layout}
 use Rattle.format.specs.Format.{kind-of}
 use Rattle.record.specs.Answers.{refused}
 use Rattle.record.specs.Checks.{IsAccepted}
@@ -62,6 +62,18 @@ fixes-of-requires-2 c κs = reaches (c .before .before) (in-millimetres c)
 write-list-requires-2 : tie.Need-write-list-requires-2
 write-list-requires-2 c κs = reaches (c .before .before .before .before) (in-millimetres (c .before .before)) .few
 
+enum-told-4 : tie.Need-enum-told-4
+enum-told-4 c = search needs
+
+with-silences : (c : tie.After-enum-told4) → silence-trail ≡ kind-of (bytes (c .before .before .before .before))
+with-silences c = ap layout (sym (c .enum-told4 .given .1)) ∙ c .before .before .kind-at .ensures
+
+fixes-of-requires-3 : tie.Need-fixes-of-requires-3
+fixes-of-requires-3 c κs = let k = c .before .before in (reaches k (with-silences c), bounded-fixes (accepted (k .before .before)) (with-silences c) (k .before .count-at .ensures .0))
+
+write-list-requires-3 : tie.Need-write-list-requires-3
+write-list-requires-3 c κs = reaches (c .before .before .before .before) (with-silences (c .before .before)) .few
+
 returns : tie.Need-returns
 returns c = anew-refused _ _ _ (sym (c .before .before .before .check .ensures) ∙ ap refused (c .before .v .given .1))
 
@@ -83,6 +95,15 @@ returns-3 c =
     let k = told .before .before in
     anew-written (bytes (k .before .before)) _ millimetre-trail _ _ _ _ (k .before .before .before .before .before .before .before .pre) (accepted (k .before .before)) (in-millimetres told) (k .before .count-at .ensures .0) (c .before .before .before .before .fixes-of2 .ensures) (c .before .before .write-list2 .ensures)
 
+same-length-3 : tie.Need-same-length-3
+same-length-3 c = search needs
+
+returns-4 : tie.Need-returns-4
+returns-4 c =
+    let told = c .before .before .before .before .before in
+    let k = told .before .before in
+    anew-written (bytes (k .before .before)) _ silence-trail _ _ _ _ (k .before .before .before .before .before .before .before .pre) (accepted (k .before .before)) (with-silences told) (k .before .count-at .ensures .0) (c .before .before .before .before .fixes-of3 .ensures) (c .before .before .write-list3 .ensures)
+
 pub write-anew-spec : {M : Type 1} → statement M
 write-anew-spec =
     tie.close
@@ -98,8 +119,13 @@ write-anew-spec =
     enum-told-3
     fixes-of-requires-2
     write-list-requires-2
+    enum-told-4
+    fixes-of-requires-3
+    write-list-requires-3
     returns
     same-length
     returns-2
     same-length-2
-    returns-3)
+    returns-3
+    same-length-3
+    returns-4)

@@ -15,7 +15,7 @@ put-text-requires c κs = search needs
 returns : tie.Need-returns
 returns c =
     let e = c .put-text .ensures in
-    let t = listed (text (now (c .before .before .before .args .b))) refl (e .0) (let l : 126997 ≤ length (c .before .before .before .args .out .now) = search needs in omega (arith, e .1)) in
+    let t = listed (text (now (c .before .before .before .args .b))) refl (e .0) (let l : 159765 ≤ length (c .before .before .before .args .out .now) = search needs in omega (arith, e .1)) in
     (t .0, e .1, t .1)
 
 pub list-spec : {M : Type 1} → statement M

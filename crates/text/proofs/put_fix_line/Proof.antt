@@ -34,8 +34,11 @@ to-second c = omega (arith, c .put-integer .ensures .ends, to-x (c .before .befo
 to-y : (c : tie.After-put-word3) → c .put-word3 .result ≤ c .before .before .before .before .before .before .before .before .before .before .before .before .before .before .before .before .before .before .before .before .before .before .before .args .at + 23
 to-y c = omega (arith, c .put-word3 .ensures .ends, to-second (c .before .before .before .before .before))
 
-to-end : (c : tie.After-put-integer2) → c .put-integer2 .result ≤ c .before .before .before .before .before .before .before .before .before .before .before .before .before .before .before .before .before .before .before .before .before .before .before .before .before .before .before .args .at + 30
-to-end c = omega (arith, c .put-integer2 .ensures .ends, to-y (c .before .before .before .before), seven (c .before .before .before .before .before .before .before .before .before .before .before .before .before .before .before .before .before .before .before .before .before .before .before .before .before .before .before))
+to-place : (c : tie.After-put-integer2) → c .put-integer2 .result ≤ c .before .before .before .before .before .before .before .before .before .before .before .before .before .before .before .before .before .before .before .before .before .before .before .before .before .before .before .args .at + 30
+to-place c = omega (arith, c .put-integer2 .ensures .ends, to-y (c .before .before .before .before), seven (c .before .before .before .before .before .before .before .before .before .before .before .before .before .before .before .before .before .before .before .before .before .before .before .before .before .before .before))
+
+to-end : (c : tie.After-put-silence) → c .put-silence .result ≤ c .before .before .before .before .before .before .before .before .before .before .before .before .before .before .before .before .before .before .before .before .before .before .before .before .before .before .before .before .before .before .before .args .at + 38
+to-end c = omega (arith, c .put-silence .ensures .1, to-place (c .before .before .before .before))
 
 slice-aggregate-put-word : tie.Need-slice-aggregate-put-word
 slice-aggregate-put-word c = search needs
@@ -64,24 +67,27 @@ put-word-requires-3 c κs = omega (arith, to-second (c .before .before .before .
 put-integer-requires-2 : tie.Need-put-integer-requires-2
 put-integer-requires-2 c κs = omega (arith, to-y (c .before .before .before), seven (c .before .before .before .before .before .before .before .before .before .before .before .before .before .before .before .before .before .before .before .before .before .before .before .before .before .before))
 
+put-silence-requires : tie.Need-put-silence-requires
+put-silence-requires c κs = omega (arith, to-place (c .before .before .before))
+
 slice-aggregate-put-word-4 : tie.Need-slice-aggregate-put-word-4
 slice-aggregate-put-word-4 c = search needs
 
 put-word-requires-4 : tie.Need-put-word-requires-4
-put-word-requires-4 c κs = omega (arith, to-end (c .before .before .before .before))
+put-word-requires-4 c κs = omega (arith, to-end (c .before .before .before .before), c .before .before .before .before .before .before .before .before .before .before .before .before .before .before .before .before .before .before .before .before .before .before .before .before .before .before .before .before .before .before .before .before .before .before .before .pre .0)
 
 same-length : tie.Need-same-length
 same-length c = search needs
 
 returns : tie.Need-returns
 returns c = (
-  rw (fix-line-is (fixOf (c .before .before .before .before .before .before .before .before .before .before .before .before .before .before .before .before .before .before .before .before .before .before .before .before .before .before .before .before .before .before .before .before .before .before .args .f)))
-      (stored-then (c .before .before .before .before .before .before .before .before .before .before .before .before .before .before .before .before .before .before .before .before .before .before .before .before .before .before .before .before .before .put-word .ensures)
-      (stored-then (c .before .before .before .before .before .before .before .before .before .before .before .before .before .before .before .before .before .before .before .before .before .before .before .before .before .put-decimal .ensures)
-      (stored-then (c .before .before .before .before .before .before .before .before .before .before .before .before .before .before .before .before .before .before .before .before .put-word2 .ensures)
-      (stored-then (c .before .before .before .before .before .before .before .before .before .before .before .before .before .before .before .before .put-integer .ensures)
-      (stored-then (c .before .before .before .before .before .before .before .before .before .before .before .put-word3 .ensures)
-      (stored-then (c .before .before .before .before .before .before .before .put-integer2 .ensures) (c .before .before .put-word4 .ensures))))))),
+  rw (fix-line-is (fixOf (c .before .before .before .before .before .before .before .before .before .before .before .before .before .before .before .before .before .before .before .before .before .before .before .before .before .before .before .before .before .before .before .before .before .before .before .before .before .before .args .f)))
+      (stored-then (c .before .before .before .before .before .before .before .before .before .before .before .before .before .before .before .before .before .before .before .before .before .before .before .before .before .before .before .before .before .before .before .before .before .put-word .ensures)
+      (stored-then (c .before .before .before .before .before .before .before .before .before .before .before .before .before .before .before .before .before .before .before .before .before .before .before .before .before .before .before .before .before .put-decimal .ensures)
+      (stored-then (c .before .before .before .before .before .before .before .before .before .before .before .before .before .before .before .before .before .before .before .before .before .before .before .before .put-word2 .ensures)
+      (stored-then (c .before .before .before .before .before .before .before .before .before .before .before .before .before .before .before .before .before .before .before .before .put-integer .ensures)
+      (stored-then (c .before .before .before .before .before .before .before .before .before .before .before .before .before .before .before .put-word3 .ensures)
+      (stored-then (c .before .before .before .before .before .before .before .before .before .before .before .put-integer2 .ensures) (stored-then (c .before .before .before .before .before .before .before .put-silence .ensures .0) (c .before .before .put-word4 .ensures)))))))),
   omega (arith, c .before .before .put-word4 .ensures .ends, to-end (c .before .before .before .before .before .before .before)),
 )
 
@@ -98,6 +104,7 @@ put-fix-line-spec =
     slice-aggregate-put-word-3
     put-word-requires-3
     put-integer-requires-2
+    put-silence-requires
     slice-aggregate-put-word-4
     put-word-requires-4
     same-length

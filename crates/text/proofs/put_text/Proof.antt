@@ -1,8 +1,7 @@
--- `put_text` meets its contract, by hand, with a loop in it. A reader is made and asked what it says of the checks, and the opening line is put down; each turn lends
--- the reader to `next` for the length of the call, and then the output to `put_step`; the closing line follows. All that the proof knows of the callees is that each
--- meets its contract.
--- `next` asks that the loan of the reader is no longer than the loan of the bytes that it holds. So the reader is lent for ν ∷ κ′, a new lifetime ν inside
--- the bytes' own κ′: the token of κ′ is cut in two, one half goes into the loan's, and the halves are joined afterwards.
+-- `put_text` meets its contract, by hand, with a loop in it. A reader is made and asked what it says of the checks, and the opening line is put down; each turn
+-- lends the reader to `next` for the length of the call, and then the output to `put_step`; the closing line follows. All that the proof knows of the callees
+-- is that each meets its contract. `next` asks that the loan of the reader is no longer than the loan of the bytes that it holds. So the reader is lent for ν ∷
+-- κ′, a new lifetime ν inside the bytes' own κ′: the token of κ′ is cut in two, one half goes into the loan's, and the halves are joined afterwards.
 --     St          where the loop stands: how many fixes are passed, the reader, the end of the text, the output, and what is known of them
 --     more, leave a turn that lists a fix, and the one that leaves the loop, with the rest of the body
 --     reads, opens the two parts of the body before the loop, up to and with a call on the output
@@ -156,7 +155,7 @@ module _ {M : Type 1} (𝓤 : URA M) (H : Heap 𝓤) (A : Atoms 𝓤) (mem : Mem
   PutClosing = tripleOf 𝓤 H A put-closing.signature (put-closing.spec 𝓤 H A mem run)
 
 module _ {M : Type 1} (𝓤 : URA M) (H : Heap 𝓤) (A : Atoms 𝓤) (W : Given 𝓤 H A) (at-mem : Memory → SProp 𝓤) (run : Routine → Fun 𝓤) (κ κ′ : Lft) (q q′ : Share) (b o : ℕ) (γ : GName) (ys : List ℕ) (s : RefT (List ℕ))
-    (room : Room u8 (length ys)) (long : 126997 ≤ length ys) where
+    (room : Room u8 (length ys)) (long : 159765 ≤ length ys) where
   -- how many lines of fixes there are
   abbrev n : ℕ
   n = lines-in (now s)
@@ -213,7 +212,7 @@ module _ {M : Type 1} (𝓤 : URA M) (H : Heap 𝓤) (A : Atoms 𝓤) (W : Given
   abbrev qr : Share
   qr = PosShare·right q′
 
-  exits : (e : ℕ) (l : List ℕ) → e < 2 ^ 64 → length l ≡ length ys → Stored ys 0 l e (text (now s)) × (e ≤ 126997) → ent 𝓤 (⋆ 𝓤 H A ((‵ (flft κ′ q′) ⊛ ‵ ftrue) ∷ ‵ Own ∷ ‵ (OwnOut l (length ys)) ∷ ‵ (flft κ q) ∷ [])) (Post (vint w64 e))
+  exits : (e : ℕ) (l : List ℕ) → e < 2 ^ 64 → length l ≡ length ys → Stored ys 0 l e (text (now s)) × (e ≤ 159765) → ent 𝓤 (⋆ 𝓤 H A ((‵ (flft κ′ q′) ⊛ ‵ ftrue) ∷ ‵ Own ∷ ‵ (OwnOut l (length ys)) ∷ ‵ (flft κ q) ∷ [])) (Post (vint w64 e))
   exits e l fits len put =
       qed W ((‵ (flft κ′ q′) ⊛ ‵ ftrue) ∷ ‵ Own ∷ ‵ (OwnOut l (length ys)) ∷ ‵ (flft κ q) ∷ []) ∵
       suffices ! _ (ends-at 𝓤 H A put-text.ended stayed (put-text.clauses 𝓤 H A at-mem run) W (((κ, (κ′, tt)), (q, (q′, tt)), tt, args, vals), tt) (vint w64 e) e (l, (tt, tt)) (len, (tt, tt))) $ says ! put $
@@ -258,7 +257,7 @@ module _ {M : Type 1} (𝓤 : URA M) (H : Heap 𝓤) (A : Atoms 𝓤) (W : Given
   abbrev to-put : ℕ → GName → List ℕ → ℕ → Step → Val → PutStep 𝓤 H A at-mem run .Ghost
   to-put ν δ l e x u = (((ν ∷ [], tt), (fullShare, tt), tt, (bytes-at b o δ l, (e, (x, tt))), (v′ (length l) ∷ [], (vint w64 e ∷ [], (u ∷ [], tt)))), tt)
 
-  goes-put : (ν : ℕ) (δ : GName) (l : List ℕ) (e : ℕ) (x : Step) (u : Val) → e < 2 ^ 64 → (e + 31 ≤ length l) × step-bounded (found x)
+  goes-put : (ν : ℕ) (δ : GName) (l : List ℕ) (e : ℕ) (x : Step) (u : Val) → e < 2 ^ 64 → (e + 39 ≤ length l) × step-bounded (found x)
       → ent 𝓤 (⋆ 𝓤 H A (‵ (flft (ν ∷ []) fullShare) ∷ ‵ (HeldBytes (named 0) (ν ∷ []) b o (length l) δ l) ∷ ‵ (S.the-row .own x (u ∷ [])) ∷ [])) (PutStep 𝓤 H A at-mem run .pre (to-put ν δ l e x u))
   goes-put ν δ l e x u fits enough =
       qed W (‵ (flft (ν ∷ []) fullShare) ∷ ‵ (HeldBytes (named 0) (ν ∷ []) b o (length l) δ l) ∷ ‵ (S.the-row .own x (u ∷ [])) ∷ []) ∵
@@ -266,7 +265,7 @@ module _ {M : Type 1} (𝓤 : URA M) (H : Heap 𝓤) (A : Atoms 𝓤) (W : Given
       nothing ! $ move ! (2 ∷ 0 ∷ []) $ join ! $ says ! enough $ frame ! $ done !
 
   abbrev Put : List ℕ → ℕ → Step → ℕ → List ℕ → Type 0
-  Put l e x e′ l′ = Stored l e l′ e′ (step-text (found x)) × (e′ ≤ e + 31)
+  Put l e x e′ l′ = Stored l e l′ e′ (step-text (found x)) × (e′ ≤ e + 39)
 
   -- a verdict's machine value has its type
   typed-verdict : (t : Checked) (u : Val) → Is Verdict.the-row t (u ∷ []) → Holds (hasTy Verdict′.mir u) × WT u
@@ -371,13 +370,13 @@ module _ {M : Type 1} (𝓤 : URA M) (H : Heap 𝓤) (A : Atoms 𝓤) (W : Given
     room-of : (z : Z) → Room u8 (length (z .zs))
     room-of z = subst (Room u8) (sym (same-of z)) room
 
-    end-within : (z : Z) → z .end ≤ 126993
+    end-within : (z : Z) → z .end ≤ 159761
     end-within z = omega (arith, z .put .not-past, z .within, few-lines (now s), opened .1)
 
     end-fits : (z : Z) → z .end < 2 ^ 64
     end-fits z = lt-of-le-of-lt (end-within z) (lit< tt)
 
-    enough-of : (z : Z) → z .k < n → z .end + 31 ≤ length (z .zs)
+    enough-of : (z : Z) → z .k < n → z .end + 39 ≤ length (z .zs)
     enough-of z less = omega (arith, z .put .not-past, less, few-lines (now s), opened .1, long, same-of z)
 
     enough-left : (z : Z) → z .end + 4 ≤ length (z .zs)
@@ -410,7 +409,7 @@ module _ {M : Type 1} (𝓤 : URA M) (H : Heap 𝓤) (A : Atoms 𝓤) (W : Given
     }
 
     -- the closing line ends the text
-    ended : (z : Z) → z .k ≡ n → (e′ : ℕ) (l : List ℕ) → Closed (z .zs) (z .end) t e′ l → Stored ys 0 l e′ (text (now s)) × (e′ ≤ 126997)
+    ended : (z : Z) → z .k ≡ n → (e′ : ℕ) (l : List ℕ) → Closed (z .zs) (z .end) t e′ l → Stored ys 0 l e′ (text (now s)) × (e′ ≤ 159765)
     ended z at-end e′ l c = (text-put (now s) (refused t) told (opened .0) (subst (λ (j : ℕ). LinesPut (now s) ys₁ p j (z .end) (z .zs)) at-end (z .put)) (c .0), omega (arith, c .1, end-within z))
 
     module _ (𝓣 : Tables 𝓤 H) (known-next : Triple 𝓤 (𝓣 .C #record·next) (Next 𝓤 H A at-mem run)) (known-put : Triple 𝓤 (𝓣 .C #text·put-step) (PutStep 𝓤 H A at-mem run)) (known-closing : Triple 𝓤 (𝓣 .C #text·put-closing) (PutClosing 𝓤 H A at-mem run)) (l₀ l₁ l₂ l₃ l₄ l₅ l₆ l₇ l₈ l₉ l₁₀ l₁₁ l₁₂ l₁₃ l₁₄ l₁₅ l₁₆ l₁₇ : ℕ) where
@@ -454,7 +453,8 @@ module _ {M : Type 1} (𝓤 : URA M) (H : Heap 𝓤) (A : Atoms 𝓤) (W : Given
           move ! (1 ∷ []) $ split ! $ move ! (0 ∷ 6 ∷ []) $ use2 W (later (‵ (fdead (ν ∷ κ′)) ⊛ ‵ (flft κ′ ql))) (within-end 𝓤 H A W ν κ′ ql) $ await ! tt $ split ! $
           move ! (0 ∷ 6 ∷ 4 ∷ []) $ use3 W (later (‵ (fat fullShare readerT l₃ 0 (T′.lowered (ws .0))) ⊛ ‵ (OwnR (ws .0)))) (back ν l₃ δ (ws .0)) $ await ! tt $ split ! $
           move ! (3 ∷ []) $ split ! $ move ! (4 ∷ 0 ∷ []) $ use2 W (‵ (flft κ′ q′)) (W .lfts .lft-join κ′ q′) $ join ! $
-          -- [the bytes' token; the reader's cell; what it owns; the step; true; what the bytes own; what the output owns; its token; _17; …; _4; …; that _3 dies; _2; …]
+          -- [the bytes' token; the reader's cell; what it owns; the step; true; what the bytes own; what the output owns; its token; _17; …; _4; …; that _3
+          -- dies; _2; …]
           assigns ! (addr ! (from ! (fld ! refl (hop ! (look-in ! 39 (sub ! 0 refl (whole !))) (stop !))))) (from ! (stop !)) (init ! 14 refl (tt, tt)) $
           assigns ! (agg ! (and-then ! (load ! (from ! (stop !)) (look ! 14 refl)) (and-then ! (load ! (from ! (fld ! refl (stop !))) (look-in ! 39 (sub ! 1 refl (whole !)))) (no-more !)))) (from ! (stop !)) (init ! 12 refl (tt, (tt, (record { fits = room-of z .0 }, tt)))) $
           -- the output is lent for a lifetime of its own

@@ -16,10 +16,11 @@ use mir.Val.{Fits, SFits}
 use lib.IntN.{ℤ, pos, negsuc, natAbs, _-ℤ_}
 use borrow.Author.Tests.{lt-ltb, le-ltb, eq-eqb, ne-eqb}
 use Rattle.distance.specs.Fix.{Fix, Bounded, widest}
+use Rattle.distance.specs.Silence.{silent}
 use Rattle.distance.specs.Integers.Order.{ltZ-false, zero-le}
 use Rattle.distance.specs.Integers.Bounds.{Bound, _⊝_, of-width, fits, abs-bound}
 use Rattle.distance.specs.Integers.Tests.{Test, holds, fails, test}
-use Rattle.text.specs.Text.{space, line-end, fix-word, digit, digits, decimal, integer, fix-line, fix-lines, trail-word, never-word, refused-word, end-line, mark-text, first-line, refusal-line, record-text, text}
+use Rattle.text.specs.Text.{space, line-end, fix-word, silence-word, digit, digits, decimal, integer, silence-text, fix-line, fix-lines, trail-word, never-word, refused-word, end-line, mark-text, first-line, refusal-line, record-text, text}
 use Rattle.record.specs.Checks.{read-refusal}
 use Rattle.record.specs.Reading.{yields, moves, begins}
 use Rattle.record.specs.Laws.Head.{accepted-head}
@@ -146,7 +147,7 @@ store-sign b c at m r z e h g = record { ends = rw e (omega arith); holds-it = r
 pub store-plain : (b c : List ℕ) (at m r : ℕ) (z : ℤ) → integer z ≡ decimal m → r ≡ at + length (decimal m) → c ≡ sets b at (decimal m) → Stored b at c r (integer z)
 store-plain b c at m r z e h g = record { ends = rw e h; holds-it = rw e g }
 
--- ---- HOW LONG THE NUMBERS ARE AT MOST; what the text takes with them is reckoned in Examples.antt (`longest-text`)
+-- ---- HOW LONG THE NUMBERS ARE AT MOST; what the text takes with them is reckoned in Examples.antt (`text-room`)
 pub ten-digits : (n : ℕ) → n < 4294967296 → length (decimal n) ≤ 10
 ten-digits n h = decimal-short 9 n (omega arith)
 
@@ -163,9 +164,17 @@ pub place-short : {f : Fix} → Bounded widest f → (length (integer (f .x)) �
 place-short {f} h = (seven-bytes (f .x) (abs-bound (f .x) widest (h .x-high) (h .x-low)), seven-bytes (f .y) (abs-bound (f .y) widest (h .y-high) (h .y-low)))
 
 -- the lines, as they are put down
-pub fix-line-is : (f : Fix) → fix-line f ≡ fix-word ++ (decimal (f .t) ++ ((space ∷ []) ++ (integer (f .x) ++ ((space ∷ []) ++ (integer (f .y) ++ (line-end ∷ []))))))
+pub fix-line-is : (f : Fix) → fix-line f ≡ fix-word ++ (decimal (f .t) ++ ((space ∷ []) ++ (integer (f .x) ++ ((space ∷ []) ++ (integer (f .y) ++ (silence-text f ++ (line-end ∷ [])))))))
 unfolding fix-line
 fix-line-is f = refl
+
+pub silence-follows : (f : Fix) → silent f ≡ true → silence-text f ≡ silence-word
+unfolding silence-text
+silence-follows f h = rw h refl
+
+pub none-follows : (f : Fix) → silent f ≡ false → silence-text f ≡ []
+unfolding silence-text
+none-follows f h = rw h refl
 
 pub first-line-is : (count mark : ℕ) → first-line count mark ≡ trail-word ++ (decimal count ++ ((space ∷ []) ++ (mark-text mark ++ (line-end ∷ []))))
 unfolding first-line
@@ -202,13 +211,13 @@ lines-more f a k e p q =
 -- where the listing of a record b stands after the lines of k fixes: they are put down over ys from p on, which gave zs, and they end at `end`
 pub record LinesPut (b ys : List ℕ) (p k end : ℕ) (zs : List ℕ) : Type 0 where
   pub stored : Stored ys p zs end (fix-lines (each (fix-of b) 0 k))
-  pub not-past : end ≤ p + 31 * k
+  pub not-past : end ≤ p + 39 * k
 
 pub lines-begin : (b ys : List ℕ) (p : ℕ) → LinesPut b ys p 0 p ys
 lines-begin b ys p = record { stored = lines-none ys p (fix-of b); not-past = omega arith }
 
 -- one more, of what a reader at k yields
-pub lines-onward : {b ys zs l : List ℕ} {p k end r : ℕ} (x : Option Fix) → LinesPut b ys p k end zs → x ≡ some (fix-of b k) → Stored zs end l r (step-text x) → r ≤ end + 31
+pub lines-onward : {b ys zs l : List ℕ} {p k end r : ℕ} (x : Option Fix) → LinesPut b ys p k end zs → x ≡ some (fix-of b k) → Stored zs end l r (step-text x) → r ≤ end + 39
     → LinesPut b ys p (k + 1) r l
 lines-onward {b} {ys} {zs} {l} {p} {k} {end} {r} x h e s t = record {
   stored = lines-more (fix-of b) (fix-of b k) k refl (h .stored) (let g = s in rw e at g);

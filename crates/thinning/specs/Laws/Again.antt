@@ -1,7 +1,7 @@
 -- Thinning again what was thinned: the greater of the two tolerances decides, in whichever order they come.
 use mathlib.Core.Path.{_≡_, refl}
 use mathlib.Core.Bool.{Bool}
-use mathlib.Core.List.{List, [], _∷_, _++_, Sublistᴰ}
+use mathlib.Core.List.{List, [], _∷_, _++_}
 use Prim.Native.Nat.{ℕ, _+_, _≤_, max}
 use native.Mathlib.Nat.{le-refl, max-eq-left, max-eq-right}
 use native.Mathlib.Omega.{arith}
@@ -11,7 +11,7 @@ use Rattle.thinning.specs.Thinning.{thin-span, thin}
 use Rattle.distance.specs.Laws.All.{all-none, all-map}
 use Rattle.thinning.specs.Laws.Furthest.{Tops, tops-most}
 use Rattle.thinning.specs.Laws.Keeps.{Keeps, ends-only, pieces-of, span-keeps, keeps-span}
-use Rattle.thinning.specs.Laws.Kept.{Ends, no-end, one-end, two-ends, ends, keeps-all, thin-ends, thin-sublist}
+use Rattle.thinning.specs.Laws.Kept.{Ends, no-end, one-end, two-ends, ends, keeps-all, thin-ends}
 
 -- `grows`: what is within e is within more
 module _ {A : Type 0} (far : (i m j : A) → ℕ) (bound : (e : ℕ) (i j : A) → ℕ) (grows : (e f : ℕ) (i j : A) → e ≤ f → bound e i j ≤ bound f i j) where
@@ -70,7 +70,3 @@ module _ {A : Type 0} (far : (i m j : A) → ℕ) (bound : (e : ℕ) (i j : A) �
           let k = (thin-span far bound (length l) e i l j) .kept in
           let t = twice f (span-keeps far bound (length l) e i l j (le-refl _)) in
           rw (thin-ends far bound e i l j, thin-ends far bound f i k j, thin-ends far bound (max e f) i l j, keeps-span far bound (t .again) _ (le-refl _), keeps-span far bound (t .whole) _ (le-refl _))
-
-  -- a greater tolerance keeps only fixes that a smaller one keeps
-  pub thin-greater : (e f : ℕ) (l : List A) → e ≤ f → Sublistᴰ ((thin far bound f l) .kept) ((thin far bound e l) .kept)
-  thin-greater e f l h = rw (← max-eq-right h, ← thin-again e f l) (thin-sublist far bound f ((thin far bound e l) .kept))

@@ -1,5 +1,5 @@
 -- What stays of a trail: its ends, a sublist in order, with every dropped fix within e of its piece's chord; and how large the count can be.
-use mathlib.Core.Path.{_≡_, refl, ap}
+use mathlib.Core.Path.{_≡_, refl, sym, _∙_, ap}
 use mathlib.Core.List.{List, [], _∷_, _++_, append-assoc, Sublistᴰ, Sublistᴰ·slnil, Sublistᴰ·cons, Sublistᴰ·cons-cons, Sublistᴰ·nil-sublist, Sublistᴰ·append}
 use Prim.Native.Nat.{ℕ, suc, _+_, _*_, _≤_}
 use native.Mathlib.Nat.{le-refl}
@@ -25,6 +25,16 @@ module _ {A : Type 0} where
   pub ends : (l : List A) → Ends l
   ends [] = no-end
   ends (i ∷ l) = ends-more i (ends l)
+
+  -- the first and the last are the same
+  pub data SameEnds : (l k : List A) → Type 0 where
+    no-fixes : SameEnds [] []
+    same-ends : {i : A} {l k : List A} → last-of i k ≡ last-of i l → SameEnds (i ∷ l) (i ∷ k)
+
+  last-after : (i : A) (l : List A) (j : A) (r : List A) → last-of i (l ++ j ∷ r) ≡ last-of j r
+  unfolding last-of
+  last-after i [] j r = refl
+  last-after i (m ∷ l) j r = last-after m l j r
 
   but-last-snoc : (m : A) (l : List A) (j : A) → but-last m (l ++ j ∷ []) ≡ m ∷ l
   unfolding but-last
@@ -54,15 +64,32 @@ module _ {A : Type 0} (far : (i m j : A) → ℕ) (bound : (e : ℕ) (i j : A) �
   keeps-pieces (ends-only h) s = piece h s
   keeps-pieces (pieces-of t g x y) s = simp append-assoc (keeps-pieces x (keeps-pieces y s))
 
-  pieces-sublist : {e : ℕ} {l k : List A} → Pieces e l k → Sublistᴰ k l
+  pub pieces-sublist : {e : ℕ} {l k : List A} → Pieces e l k → Sublistᴰ k l
   pieces-sublist no-piece = Sublistᴰ·slnil
   pieces-sublist alone = Sublistᴰ·cons-cons refl Sublistᴰ·slnil
   pieces-sublist (piece {l} h s) = Sublistᴰ·cons-cons refl (Sublistᴰ·append (Sublistᴰ·nil-sublist l) (pieces-sublist s))
 
-  pieces-all : {P : A → Type 0} {e : ℕ} {l k : List A} → Pieces e l k → All P l → All P k
+  pub pieces-all : {P : A → Type 0} {e : ℕ} {l k : List A} → Pieces e l k → All P l → All P k
   pieces-all no-piece h = h
   pieces-all alone h = h
   pieces-all (piece {l} g s) (all-more h hs) = all-more h (pieces-all s (all-right l hs))
+
+  pub pieces-ends : {e : ℕ} {l k : List A} → Pieces e l k → SameEnds l k
+  unfolding last-of
+  pieces-ends no-piece = no-fixes
+  pieces-ends alone = same-ends refl
+  pieces-ends (piece {i} {j} {l} {r} h s) = go (pieces-ends s)
+    where
+      go : {k : List A} → SameEnds (j ∷ r) (j ∷ k) → SameEnds (i ∷ (l ++ j ∷ r)) (i ∷ j ∷ k)
+      go (same-ends e) = same-ends (e ∙ sym (last-after i l j r))
+
+  -- one trail after another: no fix stands between the last of the one and the first of the other
+  pub pieces-append : {e : ℕ} {l k m n : List A} → Pieces e l k → Pieces e m n → Pieces e (l ++ m) (k ++ n)
+  pieces-append no-piece y = y
+  pieces-append alone no-piece = alone
+  pieces-append alone alone = piece {l = []} all-none alone
+  pieces-append alone (piece {l} h s) = piece {l = []} all-none (piece {l = l} h s)
+  pieces-append {m} (piece {j} {l} {r} h s) y = rw (append-assoc l (j ∷ r) m) (piece h (pieces-append s y))
 
   keeps-count : {e : ℕ} {i j : A} {l k : List A} {c : ℕ} → Keeps far bound e i l j k c → 2 * c ≤ length l * (length l + 1)
   keeps-count (ends-only {l = []} h) = omega arith
@@ -87,11 +114,18 @@ module _ {A : Type 0} (far : (i m j : A) → ℕ) (bound : (e : ℕ) (i j : A) �
       go (one-end i) = alone
       go (two-ends i l j) = rw thin-ends (keeps-pieces (span-keeps far bound (length l) e i l j (le-refl _)) alone)
 
-  pub thin-sublist : (e : ℕ) (l : List A) → Sublistᴰ ((thin far bound e l) .kept) l
-  thin-sublist e l = pieces-sublist (thin-pieces e l)
+  -- the last, j, stays, and of those before it, of which P holds, some
+  pub record LastStays (P : A → Type 0) (e : ℕ) (p : List A) (j : A) : Type 0 where
+    pub before : List A
+    pub before-all : All P before
+    pub stays : (thin far bound e (p ++ j ∷ [])) .kept ≡ before ++ j ∷ []
 
-  pub thin-all : {P : A → Type 0} (e : ℕ) (l : List A) → All P l → All P ((thin far bound e l) .kept)
-  thin-all e l h = pieces-all (thin-pieces e l) h
+  pub last-stays : {P : A → Type 0} {p : List A} (e : ℕ) (j : A) → All P p → LastStays P e p j
+  unfolding thin
+  last-stays e j all-none = record { before = []; before-all = all-none; stays = refl }
+  last-stays e j (all-more {m = i} {l} h hs) =
+      let k = span-keeps far bound (length l) e i l j (le-refl _) in
+      record { before = i ∷ (thin-span far bound (length l) e i l j) .kept; before-all = all-more h (keeps-all k hs); stays = rw (thin-ends e i l j) refl }
 
   -- (n − 1)(n − 2) is n·n − 3·n + 2
   pub thin-count : (e : ℕ) (l : List A) → 2 * (thin far bound e l) .count + 3 * length l ≤ length l * length l + 2

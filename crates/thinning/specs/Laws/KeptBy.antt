@@ -11,12 +11,12 @@ use lib.Seq.{getD-set-same, getD-set-other}
 use Rattle.distance.specs.Integers.Tests.{Test, holds, fails, test}
 use Rattle.format.specs.Format.{each}
 use Rattle.format.specs.Laws.Each.{length-each, each-more}
-use Rattle.thinning.specs.Marks.{kept-by, Cleared, Ready}
+use Rattle.thinning.specs.Marks.{kept-by, ClearFrom, Cleared, Ready}
 use Rattle.distance.specs.Laws.All.{All, all-none, all-more}
 
 -- ---- lists by position
 module _ {A : Type 0} (f : ℕ → A) where
-  each-append : (k n m : ℕ) → each f k (n + m) ≡ each f k n ++ each f (k + n) m
+  pub each-append : (k n m : ℕ) → each f k (n + m) ≡ each f k n ++ each f (k + n) m
   unfolding each
   each-append k zero m = let p : 0 + m ≡ m = omega arith in let q : k + 0 ≡ k = omega arith in rw (p, q) refl
   each-append k (suc n) m =
@@ -24,7 +24,7 @@ module _ {A : Type 0} (f : ℕ → A) where
       let q : k + suc n ≡ suc k + n = omega arith in
       rw (p, q) (ap (λ (l : List A). f k ∷ l) (each-append (suc k) n m))
 
-  each-all : {P : A → Type 0} (k n : ℕ) → ((i : ℕ) → k ≤ i → i < k + n → P (f i)) → All P (each f k n)
+  pub each-all : {P : A → Type 0} (k n : ℕ) → ((i : ℕ) → k ≤ i → i < k + n → P (f i)) → All P (each f k n)
   unfolding each
   each-all k zero h = all-none
   each-all k (suc n) h = all-more (h k (le-refl k) (omega arith)) (each-all (suc k) n (λ i p q. h i (omega arith) (omega arith)))
@@ -115,37 +115,38 @@ kept-inner f marks lo m hi h g t =
     let e : suc lo + length (inner f lo m) ≡ m = omega (arith, length-each f (suc lo) (m - suc lo)) in
     rw (inner-split f lo m hi h g, kept-by-append marks (suc lo) (inner f lo m) (f m ∷ inner f m hi), e, t) refl
 
--- a whole trail: its first fix, its inner fixes and its last, which are marked
-pub each-ends : {A : Type 0} (f : ℕ → A) (n : ℕ) → each f 0 (suc (suc n)) ≡ f 0 ∷ (inner f 0 (suc n) ++ f (suc n) ∷ [])
-unfolding each
-each-ends {A} f n =
-    let p : suc n - 1 ≡ n = omega arith in
-    let q : 1 + n ≡ suc n = omega arith in
-    rw p (ap (λ (l : List A). f 0 ∷ l) (each-more f 1 n ∙ rw q refl))
+-- the whole stretch from lo on: its first fix, its inner fixes and its last, which are marked
+module _ {A : Type 0} (f : ℕ → A) (lo n : ℕ) where
+  pub each-ends : each f lo (suc (suc n)) ≡ f lo ∷ (inner f lo (lo + suc n) ++ f (lo + suc n) ∷ [])
+  unfolding each
+  each-ends =
+      let p : lo + suc n - suc lo ≡ n = omega arith in
+      let q : suc lo + n ≡ lo + suc n = omega arith in
+      rw p (ap (λ (l : List A). f lo ∷ l) (each-more f (suc lo) n ∙ rw q refl))
 
-pub kept-ends : {A : Type 0} (f : ℕ → A) (marks : List Bool) (n : ℕ) → getD marks 0 false ≡ true → getD marks (suc n) false ≡ true
-    → kept-by marks 0 (f 0 ∷ (inner f 0 (suc n) ++ f (suc n) ∷ [])) ≡ f 0 ∷ (kept-by marks 1 (inner f 0 (suc n)) ++ f (suc n) ∷ [])
-unfolding kept-by
-kept-ends f marks n h g =
-    let e : 1 + length (inner f 0 (suc n)) ≡ suc n = omega (arith, length-each f 1 (suc n - 1)) in
-    rw (h, kept-by-append marks 1 (inner f 0 (suc n)) (f (suc n) ∷ []), e, g) refl
+  pub kept-ends : (marks : List Bool) → getD marks lo false ≡ true → getD marks (lo + suc n) false ≡ true
+      → kept-by marks lo (f lo ∷ (inner f lo (lo + suc n) ++ f (lo + suc n) ∷ [])) ≡ f lo ∷ (kept-by marks (suc lo) (inner f lo (lo + suc n)) ++ f (lo + suc n) ∷ [])
+  unfolding kept-by
+  kept-ends marks h g =
+      let e : suc lo + length (inner f lo (lo + suc n)) ≡ lo + suc n = omega (arith, length-each f (suc lo) (lo + suc n - suc lo)) in
+      rw (h, kept-by-append marks (suc lo) (inner f lo (lo + suc n)) (f (lo + suc n) ∷ []), e, g) refl
 
 -- ---- cleared marks, and the two ends marked
 pub cleared-anew : (N : ℕ) → Cleared (replicate N false)
-cleared-anew N = record { cleared = λ k. go k (test N k) }
+cleared-anew N = record { clear-from = λ k h. go k (test N k) }
   where
     go : (k : ℕ) {b : Bool} → Test N k b → getD (replicate N false) k false ≡ false
     go k (holds h) = List·getD-eq-default (replicate N false) false (rw (length-replicate N false) h)
     go k (fails h) = getD-replicate N k false false h
 
-pub ready : (marks : List Bool) (n : ℕ) → Cleared marks → 1 ≤ n → n ≤ length marks → Ready n (set (set marks 0 true) (n - 1) true)
-ready marks n c h g =
-    let both : length (set marks 0 true) ≡ length marks = length-set marks 0 true in
+pub ready : (marks : List Bool) (lo hi : ℕ) → ClearFrom lo marks → lo ≤ hi → hi < length marks → Ready lo hi (set (set marks lo true) hi true)
+ready marks lo hi c h g =
+    let both : length (set marks lo true) ≡ length marks = length-set marks lo true in
     record {
-      room = rw (length-set (set marks 0 true) (n - 1) true, both) g;
-      first = ⊎-elim (λ (q : 0 ≡ n - 1). rw (← q) (getD-set-same (set marks 0 true) 0 true false (rw both (omega arith))))
-          (λ (q : 0 < n - 1). getD-set-other (set marks 0 true) (n - 1) 0 true false (omega arith) ∙ getD-set-same marks 0 true false (omega arith))
-          (eq-or-lt-of-le {n = 0} {m = n - 1} (omega arith));
-      last = getD-set-same (set marks 0 true) (n - 1) true false (rw both (omega arith));
-      clear = λ k p q. getD-set-other (set marks 0 true) (n - 1) k true false (omega arith) ∙ getD-set-other marks 0 k true false (omega arith) ∙ c .cleared k;
+      room = rw (length-set (set marks lo true) hi true, both) g;
+      first = ⊎-elim (λ (q : lo ≡ hi). rw (← q) (getD-set-same (set marks lo true) lo true false (rw both (omega arith))))
+          (λ (q : lo < hi). getD-set-other (set marks lo true) hi lo true false (omega arith) ∙ getD-set-same marks lo true false (omega arith))
+          (eq-or-lt-of-le h);
+      last = getD-set-same (set marks lo true) hi true false (rw both g);
+      clear = λ k p q. getD-set-other (set marks lo true) hi k true false (omega arith) ∙ getD-set-other marks lo k true false (omega arith) ∙ c .clear-from k (omega arith);
     }

@@ -1,7 +1,8 @@
--- Thinning looks at nothing but how what fixes measure compares. So if each fix is changed, and of any two the further one and of each whether it is within the
--- tolerance is as before, it keeps the changed ones of those that it kept, and the count is the same. The tolerance may be changed with them: e before, d
--- afterwards.
+-- Thinning looks at nothing but where silences are and how what fixes measure compares. So if each fix is changed, and whether silence follows it, of any two the
+-- further one and of each whether it is within the tolerance is as before, it keeps the changed ones of those that it kept, and the count is the same. The
+-- tolerance may be changed with them: e before, d afterwards.
 use mathlib.Core.Path.{_≡_, refl, _∙_, ap, subst}
+use mathlib.Core.Bool.{Bool}
 use mathlib.Core.List.{List, [], _∷_, _++_, map, map-append}
 use Prim.Native.Nat.{ℕ, _+_, _≤_, _<_}
 use native.Mathlib.Omega.{arith}
@@ -10,7 +11,8 @@ use lib.ListN.{length, length-map, length-append}
 use borrow.Author.Tests.{leb-true, leb-false, le-leb, lt-leb}
 use Rattle.distance.specs.Fix.{last-of}
 use Rattle.distance.specs.Laws.All.{all-mapped, last-mapped}
-use Rattle.thinning.specs.Thinning.{but-last, Thinned, thin-span, thin}
+use Rattle.thinning.specs.Thinning.{but-last, Thinned, thin-span, thin, thin-each, thin-stretches, stretches}
+use Rattle.thinning.specs.Laws.Stretches.{stretches-mapped}
 use Rattle.thinning.specs.Laws.Furthest.{Tops}
 use Rattle.thinning.specs.Laws.Keeps.{AllWithin, Keeps, ends-only, pieces-of, span-keeps, keeps-span}
 
@@ -51,16 +53,26 @@ module _ {A : Type 0} (f : A → A) where
       span-mapped : (n : ℕ) (i : A) (l : List A) (j : A) → length l ≤ n → thin-span far bound n d (f i) (map f l) (f j) ≡ mapped (thin-span far bound n e i l j)
       span-mapped n i l j h = keeps-span far bound (keeps-mapped (span-keeps far bound n e i l j h)) n (rw (length-map l f) h)
 
-      -- THE LAW
-      pub thin-alike : (l : List A) → thin far bound d (map f l) ≡ mapped (thin far bound e l)
+      -- one stretch, and each of them
+      stretch-alike : (l : List A) → thin far bound d (map f l) ≡ mapped (thin far bound e l)
       unfolding thin
-      thin-alike [] = refl
-      thin-alike (i ∷ []) = refl
-      thin-alike (i ∷ m ∷ l) =
+      stretch-alike [] = refl
+      stretch-alike (i ∷ []) = refl
+      stretch-alike (i ∷ m ∷ l) =
           let inner = but-last m l in
           let j = last-of m l in
           rw (but-last-mapped m l, last-mapped f m l, length-map inner f, span-mapped (length inner) i inner j (omega arith), map-append f ((thin-span far bound (length inner) e i inner j) .kept) (j ∷ [])) refl
 
+      each-alike : (r : List (List A)) → thin-each far bound d (map (map f) r) ≡ mapped (thin-each far bound e r)
+      unfolding thin-each
+      each-alike [] = refl
+      each-alike (s ∷ r) = rw (stretch-alike s, each-alike r, map-append f ((thin far bound e s) .kept) ((thin-each far bound e r) .kept)) refl
+
+      -- THE LAW: if silence follows the changed ones where it followed
+      pub thin-alike : (silent : A → Bool) → ((i : A) → silent (f i) ≡ silent i) → (l : List A) → thin-stretches far bound silent d (map f l) ≡ mapped (thin-stretches far bound silent e l)
+      thin-alike silent same-silent l = ap (thin-each far bound d) (stretches-mapped silent f same-silent l) ∙ each-alike (stretches silent l)
+
     -- so too, at one tolerance, if no fix measures otherwise
-    pub thin-mapped : ((i m j : A) → far (f i) (f m) (f j) ≡ far i m j) → ((e : ℕ) (i j : A) → bound e (f i) (f j) ≡ bound e i j) → (e : ℕ) (l : List A) → thin far bound e (map f l) ≡ mapped (thin far bound e l)
-    thin-mapped same-far same-bound e l = thin-alike e e (λ i m n j. rw (same-far i m j, same-far i n j) refl) (λ i m j. rw (same-far i m j, same-bound e i j) refl) l
+    pub thin-mapped : ((i m j : A) → far (f i) (f m) (f j) ≡ far i m j) → ((e : ℕ) (i j : A) → bound e (f i) (f j) ≡ bound e i j) → (e : ℕ) (silent : A → Bool)
+        → ((i : A) → silent (f i) ≡ silent i) → (l : List A) → thin-stretches far bound silent e (map f l) ≡ mapped (thin-stretches far bound silent e l)
+    thin-mapped same-far same-bound e = thin-alike e e (λ i m n j. rw (same-far i m j, same-far i n j) refl) (λ i m j. rw (same-far i m j, same-bound e i j) refl)

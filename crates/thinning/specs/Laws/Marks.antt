@@ -1,5 +1,5 @@
 -- From marks to thinning: the marks that `Marks` leaves say what thinning keeps, with the same count.
-use mathlib.Core.Path.{_≡_, refl, sym, _∙_, ap}
+use mathlib.Core.Path.{_≡_, refl, sym, _∙_}
 use mathlib.Core.Bool.{Bool, true, false}
 use mathlib.Core.List.{List}
 use Prim.Native.Nat.{ℕ, zero, suc, _+_, _*_, _-_, _<_, _≤_}
@@ -8,12 +8,10 @@ use native.Mathlib.Omega.{arith}
 use lib.ListN.{length, getD, set, length-set}
 use borrow.Author.Tests.{leb-true, leb-false}
 use lib.Seq.{getD-set-same, getD-set-other}
-use Rattle.distance.specs.Fix.{Fix}
-use Rattle.distance.specs.Distance.{deviation, allowance}
 use Rattle.format.specs.Format.{each}
 use Rattle.format.specs.Laws.Each.{length-each}
-use Rattle.thinning.specs.Thinning.{Thinned, thin, thinning}
-use Rattle.thinning.specs.Marks.{kept-by, Ready, Cleared, Says, Judged, Marks, marks-none, marks-ends, marks-split}
+use Rattle.thinning.specs.Thinning.{thin}
+use Rattle.thinning.specs.Marks.{kept-by, ClearFrom, Ready, StretchMarked, Judged, Marks, marks-none, marks-ends, marks-split}
 use Rattle.distance.specs.Laws.All.{all-none}
 use Rattle.thinning.specs.Laws.Furthest.{Tops}
 use Rattle.thinning.specs.Laws.Keeps.{Keeps, ends-only, pieces-of, keeps-span}
@@ -42,6 +40,11 @@ split-count : (a b c d : ℕ) → 2 * c + suc a ≤ suc a * suc a → 2 * d + su
     → 2 * (suc a + suc b - 1 + c + d) + (suc a + suc b) ≤ (suc a + suc b) * (suc a + suc b)
 split-count a b c d h g = let e : suc a + suc b - 1 ≡ suc a + b = omega arith in rw e (omega arith)
 
+-- of at most 4,096 fixes: (n − 1)(n − 2)/2
+pub small-count : {c : ℕ} (n : ℕ) → n ≤ 4095 → 2 * c + n ≤ n * n → c ≤ 8382465
+small-count zero h g = omega arith
+small-count (suc n) h g = omega (arith, mul-le-mul {n₁ = n} {m₁ = suc n} {n₂ = 4094} {m₂ = 4095} (omega arith) h)
+
 module _ {A : Type 0} (far : (i m j : A) → ℕ) (bound : (e : ℕ) (i j : A) → ℕ) (f : ℕ → A) (e : ℕ) where
   pub marks-length : {lo hi c : ℕ} {k k2 : List Bool} → Marks far bound f e lo hi k k2 c → length k2 ≡ length k
   marks-length (marks-none h) = refl
@@ -60,13 +63,8 @@ module _ {A : Type 0} (far : (i m j : A) → ℕ) (bound : (e : ℕ) (i j : A) �
       let ab : hi - lo ≡ suc (m - suc lo) + suc (hi - suc m) = omega arith in
       rw ab (split-count (m - suc lo) (hi - suc m) c d (rw a at (marks-count one)) (rw b at (marks-count two)))
 
-  -- of at most 4,096 fixes: (n − 1)(n − 2)/2
   pub marks-small : {lo hi c : ℕ} {k k2 : List Bool} → Marks far bound f e lo hi k k2 c → hi ≤ lo + 4095 → c ≤ 8382465
-  marks-small {lo} {hi} m h = small (hi - lo) (omega arith) (marks-count m)
-    where
-      small : {c : ℕ} (n : ℕ) → n ≤ 4095 → 2 * c + n ≤ n * n → c ≤ 8382465
-      small zero h g = omega arith
-      small (suc n) h g = omega (arith, mul-le-mul {n₁ = n} {m₁ = suc n} {n₂ = 4094} {m₂ = 4095} (omega arith) h)
+  marks-small {lo} {hi} m h = small-count (hi - lo) (omega arith) (marks-count m)
 
   -- outside the span marks stay as they were
   pub marks-low : {lo hi c : ℕ} {k k2 : List Bool} → Marks far bound f e lo hi k k2 c → (i : ℕ) → i ≤ lo → getD k2 i false ≡ getD k i false
@@ -110,40 +108,38 @@ module _ {A : Type 0} (far : (i m j : A) → ℕ) (bound : (e : ℕ) (i j : A) �
       record { before = inner-all f lo m (λ i p q. omega (arith, x .first i p q)); after = inner-all f m hi (λ i p q. omega (arith, x .most i (omega arith) q)) } in
       rw (count, kept-inner f k2 lo m hi lm mh set-m, same, inner-split f lo m hi lm mh) (pieces-of top (omega arith) first second)
 
-  -- a trail of one fix, and of more
-  one-fix : {c : ℕ} {k k2 : List Bool} → getD k 0 false ≡ true → Marks far bound f e 0 0 k k2 c → thin far bound e (each f 0 1) ≡ record { kept = kept-by k2 0 (each f 0 1); count = c }
+  -- a stretch of one fix, and of more, from position lo on
+  one-fix : {lo c : ℕ} {k k2 : List Bool} → getD k lo false ≡ true → Marks far bound f e lo lo k k2 c → thin far bound e (each f lo 1) ≡ record { kept = kept-by k2 lo (each f lo 1); count = c }
   unfolding thin each kept-by
-  one-fix {c} {k} {k2} a m =
-      let z : c ≡ 0 = omega (arith, marks-count m) in
-      let t : getD k2 0 false ≡ true = marks-low m 0 (le-refl 0) ∙ a in
+  one-fix {lo} {c} {k} {k2} a m =
+      let none : lo - lo ≡ 0 = omega arith in
+      let z : c ≡ 0 = omega (arith, rw none at (marks-count m)) in
+      let t : getD k2 lo false ≡ true = marks-low m lo (le-refl lo) ∙ a in
       rw (z, t) refl
 
-  more-fixes : (n : ℕ) {c : ℕ} {k k2 : List Bool} → suc (suc n) ≤ length k → getD k 0 false ≡ true → getD k (suc n) false ≡ true → ((i : ℕ) → 0 < i → i < suc n → getD k i false ≡ false)
-      → Marks far bound f e 0 (suc n) k k2 c → thin far bound e (each f 0 (suc (suc n))) ≡ record { kept = kept-by k2 0 (each f 0 (suc (suc n))); count = c }
-  more-fixes n {k2} r a b s m =
-      let l = inner f 0 (suc n) in
-      let kept = kept-ends f k2 n (marks-low m 0 (le-refl 0) ∙ a) (marks-high m (suc n) (le-refl _) ∙ b) in
-      let span = keeps-span far bound (marks-keeps m (omega arith) s) (length l) (le-refl _) in
-      rw (each-ends f n, kept, thin-ends far bound e (f 0) l (f (suc n)), span) refl
+  more-fixes : (lo n : ℕ) {c : ℕ} {k k2 : List Bool} → Ready lo (lo + suc n) k → Marks far bound f e lo (lo + suc n) k k2 c
+      → thin far bound e (each f lo (suc (suc n))) ≡ record { kept = kept-by k2 lo (each f lo (suc (suc n))); count = c }
+  more-fixes lo n {k2} r m =
+      let l = inner f lo (lo + suc n) in
+      let kept = kept-ends f lo n k2 (marks-low m lo (le-refl lo) ∙ r .first) (marks-high m (lo + suc n) (le-refl _) ∙ r .last) in
+      let room = r .room in
+      let span = keeps-span far bound (marks-keeps m (omega arith) (r .clear)) (length l) (le-refl _) in
+      rw (each-ends f lo n, kept, thin-ends far bound e (f lo) l (f (lo + suc n)), span) refl
 
   -- THE WAY FROM CODE TO THE DEFINITION: with the ends marked before, the marks after say what thinning keeps, and the counts are equal.
-  pub marks-thin : (n : ℕ) {c : ℕ} {k k2 : List Bool} → 1 ≤ n → Ready n k → Marks far bound f e 0 (n - 1) k k2 c
-      → thin far bound e (each f 0 n) ≡ record { kept = kept-by k2 0 (each f 0 n); count = c }
-  marks-thin zero h r m = absurd (omega arith)
-  marks-thin (suc zero) h r m = one-fix (r .first) m
-  marks-thin (suc (suc n)) h r m =
-      let z : suc (suc n) - 1 ≡ suc n = omega arith in
-      more-fixes n (r .room) (r .first) (rw z at (r .last)) (λ i p q. r .clear i p (rw z q)) (rw z at m)
+  marks-thin : (lo n : ℕ) {c : ℕ} {k k2 : List Bool} → Ready lo (lo + n) k → Marks far bound f e lo (lo + n) k k2 c
+      → thin far bound e (each f lo (suc n)) ≡ record { kept = kept-by k2 lo (each f lo (suc n)); count = c }
+  marks-thin lo zero r m = let z : lo + 0 ≡ lo = omega arith in one-fix (r .first) (rw z at m)
+  marks-thin lo (suc n) r m = more-fixes lo n r m
 
--- the same at fixes
-pub marks-thinning : (f : ℕ → Fix) (e n : ℕ) {c : ℕ} {k k2 : List Bool} → 1 ≤ n → Ready n k → Marks deviation allowance f e 0 (n - 1) k k2 c
-    → thinning e (each f 0 n) ≡ record { kept = kept-by k2 0 (each f 0 n); count = c }
-unfolding thinning
-marks-thinning f e n h r m = marks-thin deviation allowance f e n h r m
-
--- ---- the marks and the count are the definition's
-pub marks-say : (f : ℕ → Fix) (e n : ℕ) (k : List Bool) {k2 : List Bool} {c : ℕ} → Cleared k → 1 ≤ n → n ≤ length k → Marks deviation allowance f e 0 (n - 1) (set (set k 0 true) (n - 1) true) k2 c
-    → Says (thinning e (each f 0 n)) k2 (each f 0 n) c
-marks-say f e n k {k2} {c} clear one room m =
-    let t = marks-thinning f e n one (ready k n clear one room) m in
-    record { says-kept = ap (λ (t : Thinned Fix). t .kept) t; says-count = ap (λ (t : Thinned Fix). t .count) t }
+  -- the stretch from lo to hi, in marks that were clear from lo on
+  pub stretch-marked : (lo hi : ℕ) {c : ℕ} (k : List Bool) {k2 : List Bool} → ClearFrom lo k → lo ≤ hi → hi < length k → Marks far bound f e lo hi (set (set k lo true) hi true) k2 c
+      → StretchMarked far bound f e lo hi k k2 c
+  stretch-marked lo hi k clear h room m =
+      let end : hi ≡ lo + (hi - lo) = omega arith in
+      let r = ready k lo hi clear h room in
+      record {
+        says = marks-thin lo (hi - lo) (rw end at r) (rw end at m);
+        earlier = λ i p. marks-low m i (omega arith) ∙ getD-set-other (set k lo true) hi i true false (omega arith) ∙ getD-set-other k lo i true false (omega arith);
+        later = λ i p. marks-high m i (omega arith) ∙ getD-set-other (set k lo true) hi i true false (omega arith) ∙ getD-set-other k lo i true false (omega arith);
+      }

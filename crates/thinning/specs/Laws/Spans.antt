@@ -106,5 +106,9 @@ module _ {limit : ℕ} {f : ℕ → Fix} (lo hi : ℕ) (s : Spans limit f (hi + 
   pub chord-of : lo ≤ hi → Chord (f lo) (f hi)
   chord-of h = s .spans lo lo hi (le-refl lo) h (omega arith) .between .chord
 
+-- of places in centimetres one word holds every span: 2·16,000·65,535 is less than it
+pub narrow-off : {f : ℕ → Fix} (lo hi : ℕ) → lo ≤ hi → Spans 16000 f (hi + 1) → SpanOff one-word (f lo) (f hi) f lo hi
+narrow-off lo hi h s = let c = chord-of lo hi s h in short-off lo hi s (omega (arith, c .order, c .short))
+
 pub off-chord : {top : ℕ} {i j : Fix} {f : ℕ → Fix} {lo hi : ℕ} → SpanOff top i j f lo hi → lo + 1 < hi → Chord i j
 off-chord {lo} s h = s .off (lo + 1) (omega arith) h .between .chord

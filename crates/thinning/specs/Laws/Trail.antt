@@ -1,21 +1,25 @@
 -- The laws of thinning, at fixes.
-use mathlib.Core.Path.{_≡_, refl, sym, _∙_}
+use mathlib.Core.Path.{_≡_, refl, sym, _∙_, ap}
 use mathlib.Core.Logic.{_↔_}
-use mathlib.Core.Bool.{true}
-use mathlib.Core.List.{List, [], _∷_, Sublistᴰ}
+use mathlib.Core.Bool.{Bool, true, false, cond, _&&_, _||_}
+use mathlib.Core.List.{List, [], _∷_, _++_, Sublistᴰ}
 use Prim.Native.Nat.{ℕ, zero, suc, _+_, _*_, _-_, _<_, _≤_, max}
 use native.Mathlib.Omega.{arith}
 use lib.Dec.{leb}
 use borrow.Author.Tests.{leb-true, le-leb}
 use lib.ListN.{length}
-use Rattle.distance.specs.Fix.{Fix, Rising, rising, later, last-of}
+use Rattle.distance.specs.Fix.{Fix, Rising, rising, later}
 use Rattle.distance.specs.Distance.{deviation, allowance, Within}
 use Rattle.distance.specs.Laws.Deviation.{allowance-grows}
 use Rattle.distance.specs.Laws.Place.{after-last, after-rest}
-use Rattle.thinning.specs.Thinning.{thin-span, thin, thinning, thinned}
-use Rattle.distance.specs.Laws.All.{All, last-more}
-use Rattle.thinning.specs.Laws.Kept.{Ends, no-end, one-end, two-ends, ends, Pieces, no-piece, alone, piece, thin-ends, sublist-length, thin-pieces, thin-sublist, thin-all, thin-count}
-use Rattle.thinning.specs.Laws.Again.{thin-again, thin-greater}
+use Rattle.distance.specs.Place.{Time}
+use Rattle.distance.specs.Silence.{silent, strictly-between, silence-from, in-silence}
+use Rattle.thinning.specs.Thinning.{joined, stretches, thin, thin-each, thinning, thinned}
+use Rattle.distance.specs.Laws.All.{All}
+use Rattle.thinning.specs.Laws.Kept.{SameEnds, Pieces, no-piece, alone, piece, sublist-length, pieces-ends, pieces-sublist, pieces-all}
+use Rattle.thinning.specs.Laws.Stretches.{NoneSilent}
+use Rattle.thinning.specs.Laws.ByStretch.{unbroken, stretches-pieces, stretches-count, stretches-again, stretches-greater}
+use Rattle.thinning.specs.Laws.Silences.{Neighbours, silences-from, silences, silences-stay, both-ends-stay}
 
 -- the test that `thin-span` makes of each inner fix is the distance layer's
 pub tested : (e : ℕ) (i m j : Fix) → leb (deviation i m j) (allowance e i j) ≡ true ↔ Within e i m j
@@ -24,52 +28,42 @@ tested e i m j = (λ h. record { at-most = leb-true _ _ h }, λ h. le-leb _ _ (h
 -- ---- "thin again what was thinned": the greater tolerance decides, in both orders, and a tolerance that is no greater changes nothing
 pub again : (e f : ℕ) (l : List Fix) → thinned f (thinned e l) ≡ thinned (max e f) l
 unfolding thinning
-again e f l = thin-again deviation allowance allowance-grows e f l
+again e f l = stretches-again deviation allowance silent allowance-grows e f l
 
 -- ---- which fixes stay
--- the first and the last
-pub data SameEnds : (l k : List Fix) → Type 0 where
-  no-fixes : SameEnds [] []
-  same-ends : {i : Fix} {l k : List Fix} → last-of i k ≡ last-of i l → SameEnds (i ∷ l) (i ∷ k)
+-- a dropped fix is within e of the chord of the two kept ones around it
+pub dropped-within : (e : ℕ) (l : List Fix) → Pieces deviation allowance e l (thinned e l)
+unfolding thinning
+dropped-within e l = stretches-pieces deviation allowance silent e l
 
+-- the first and the last
 pub ends-stay : (e : ℕ) (l : List Fix) → SameEnds l (thinned e l)
-unfolding thinning thin
-ends-stay e l = go (ends l)
-  where
-    go : {l : List Fix} → Ends l → SameEnds l (thinned e l)
-    go no-end = no-fixes
-    go (one-end i) = same-ends refl
-    go (two-ends i l j) =
-        let k = (thin-span deviation allowance (length l) e i l j) .kept in
-        rw (thinned, thin-ends deviation allowance e i l j) (same-ends (last-more i k j ∙ sym (last-more i l j)))
+ends-stay e l = pieces-ends deviation allowance (dropped-within e l)
 
 -- "A record of one fix keeps it."
 pub one-stays : (e : ℕ) (i : Fix) → thinning e (i ∷ []) ≡ record { kept = i ∷ []; count = 0 }
-unfolding thinning thin
-one-stays e i = refl
+unfolding thinning thin-each thin stretches joined
+one-stays e i = go (silent i)
+  where
+    go : (b : Bool) → thin-each deviation allowance e (cond b ((i ∷ []) ∷ []) (joined i [])) ≡ record { kept = i ∷ []; count = 0 }
+    go true = refl
+    go false = refl
 
 -- fixes of the trail, in their order
 pub in-order : (e : ℕ) (l : List Fix) → Sublistᴰ (thinned e l) l
-unfolding thinning
-in-order e l = thin-sublist deviation allowance e l
+in-order e l = pieces-sublist deviation allowance (dropped-within e l)
 
 pub no-more : (e : ℕ) (l : List Fix) → length (thinned e l) ≤ length l
 no-more e l = sublist-length (in-order e l)
 
 -- so that what holds of all holds of them
 pub kept-all : {P : Fix → Type 0} (e : ℕ) (l : List Fix) → All P l → All P (thinned e l)
-unfolding thinning
-kept-all e l h = thin-all deviation allowance e l h
+kept-all e l h = pieces-all deviation allowance (dropped-within e l) h
 
 -- a greater tolerance keeps only fixes that a smaller one keeps
 pub greater-keeps-fewer : (e f : ℕ) (l : List Fix) → e ≤ f → Sublistᴰ (thinned f l) (thinned e l)
 unfolding thinning
-greater-keeps-fewer e f l h = thin-greater deviation allowance allowance-grows e f l h
-
--- a dropped fix is within e of the chord of the two kept ones around it
-pub dropped-within : (e : ℕ) (l : List Fix) → Pieces deviation allowance e l (thinned e l)
-unfolding thinning
-dropped-within e l = thin-pieces deviation allowance e l
+greater-keeps-fewer e f l h = stretches-greater deviation allowance silent allowance-grows e f l h
 
 -- ---- times rise as they did
 pieces-rising : {e : ℕ} {l k : List Fix} → Pieces deviation allowance e l k → Rising l → Rising k
@@ -83,14 +77,52 @@ pieces-rising (piece {i} {j} {l} {r} h s) (rising g) = go (after-last j r l g) (
 pub kept-rising : (e : ℕ) (l : List Fix) → Rising l → Rising (thinned e l)
 kept-rising e l h = pieces-rising (dropped-within e l) h
 
+-- ---- silences
+-- "both ends of a silence are always kept"
+pub silence-stays : (e : ℕ) (p : List Fix) (i j : Fix) (q : List Fix) → silent i ≡ true → Neighbours i j (thinned e (p ++ i ∷ j ∷ q))
+unfolding thinning
+silence-stays e p i j q h = both-ends-stay deviation allowance silent e p i j q h
+
+-- what stays has the silences that the trail has, from the same fixes to the same ..
+pub silences-kept : (e : ℕ) (l : List Fix) → silences silent (thinned e l) ≡ silences silent l
+unfolding thinning
+silences-kept e l = silences-stay deviation allowance silent e l
+
+-- .. and so it is silent at the same times
+inside-some : Time → List (Fix × Fix) → Bool
+inside-some u [] = false
+inside-some u (s ∷ l) = strictly-between (s .0) (s .1) u || inside-some u l
+
+silent-from : (u : Time) (a : Fix) (l : List Fix) → silence-from a l u ≡ inside-some u (silences-from silent a l)
+unfolding silence-from silences-from inside-some
+silent-from u a [] = refl
+silent-from u a (b ∷ l) = rw (silent-from u b l) (go (silent a))
+  where
+    go : (x : Bool) → x && strictly-between a b u || inside-some u (silences-from silent b l) ≡ inside-some u (cond x ((a, b) ∷ silences-from silent b l) (silences-from silent b l))
+    go true = refl
+    go false = refl
+
+silent-at : (u : Time) (l : List Fix) → in-silence l u ≡ inside-some u (silences silent l)
+unfolding in-silence silences inside-some
+silent-at u [] = refl
+silent-at u (a ∷ l) = silent-from u a l
+
+pub silent-as-before : (e : ℕ) (l : List Fix) (u : Time) → in-silence (thinned e l) u ≡ in-silence l u
+silent-as-before e l u = silent-at u (thinned e l) ∙ ap (inside-some u) (silences-kept e l) ∙ sym (silent-at u l)
+
+-- a trail without silences is thinned as one stretch
+pub never-silent : (e : ℕ) (l : List Fix) → NoneSilent silent l → thinning e l ≡ thin deviation allowance e l
+unfolding thinning
+never-silent e l h = unbroken deviation allowance silent e l h
+
 -- ---- "It is at most (n − 1)(n − 2)/2."
 pub count-bound : (e : ℕ) (l : List Fix) → 2 * (thinning e l) .count + 3 * length l ≤ length l * length l + 2
 unfolding thinning
-count-bound e l = thin-count deviation allowance e l
+count-bound e l = stretches-count deviation allowance silent e l
 
 -- the same in its printed form
 pub count-at-most : (e : ℕ) (l : List Fix) → 2 * (thinning e l) .count ≤ (length l - 1) * (length l - 2)
-unfolding thinning thin
+unfolding thinning thin-each stretches
 count-at-most e [] = omega arith
 count-at-most e (i ∷ l) = from (length l) ((thinning e (i ∷ l)) .count) (count-bound e (i ∷ l))
   where

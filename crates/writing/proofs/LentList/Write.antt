@@ -37,7 +37,7 @@ use denote.Triple.Entry.{Vals, onEntry}
 use denote.Triple.Spec.{Meets, tripleOf}
 use denote.Triple.Walked.{says, Stays, stay-none-slice, stay-slice, walkOf, goes-none-slice, goes-slice, Walks, ends-at, walked, walk-meets}
 use denote.Exit.{yes}
-use Rattle.distance.specs.Laws.All.{All}
+use Rattle.distance.specs.Laws.All.{All, all-always, all-mapped}
 use Rattle.format.specs.Kinds.{Kind, layout}
 use Rattle.format.specs.Laws.Kinds.{is-kind}
 use Rattle.record.specs.Laws.Scan.{Timed}
@@ -281,7 +281,7 @@ module _ (L : LentList) where
             peeks ! Wr.the-row (Is Wr.the-row) (shows 𝓤 H A Wr.the-row) a (x ∷ []) (λ isa. land ! (from ! (stop !)) (init ! 30 refl (EL.lawful Wr.the-type Wr′.the-laws 𝓤 H A W tt .typed a _ isa .0)) $
             returns ! (look ! 30 refl) $ forget ! 14 refl $ forget ! 24 refl $ forget ! 26 refl $ forget ! 28 refl $ forget ! 30 refl $
             move ! (30 ∷ 31 ∷ []) $ free1 ! $ move ! (28 ∷ 29 ∷ []) $ free1 ! $ move ! (26 ∷ 27 ∷ []) $ free1 ! $ move ! (24 ∷ 25 ∷ []) $ free1 ! $ move ! (22 ∷ 23 ∷ []) $ free1 ! $ move ! (20 ∷ 21 ∷ []) $ free1 ! $ move ! (18 ∷ 19 ∷ []) $ free1 ! $ move ! (16 ∷ 17 ∷ []) $ free1 ! $ move ! (14 ∷ 15 ∷ []) $ free1 ! $ move ! (12 ∷ 13 ∷ []) $ free1 ! $ move ! (10 ∷ 11 ∷ []) $ free1 ! $ move ! (8 ∷ 9 ∷ []) $ free1 ! $ move ! (6 ∷ 7 ∷ []) $ free1 ! $ free0 ! $
-            keep ! (0 ∷ 2 ∷ 3 ∷ 4 ∷ 5 ∷ []) $ by ! (exits a x (ws .1 .0) (same ∙ len) (told ∙ end .1, end .2, λ h. subst (ReadsBack K (map (L .says-fix) fs)) (sym (end .2)) (writes-back (L .kind) (map (L .says-fix) fs) ys timed h)))))))))))))))
+            keep ! (0 ∷ 2 ∷ 3 ∷ 4 ∷ 5 ∷ []) $ by ! (exits a x (ws .1 .0) (same ∙ len) (told ∙ end .1, end .2, λ h. subst (ReadsBack K (map (L .says-fix) fs)) (sym (end .2)) (writes-back (L .kind) (map (L .says-fix) fs) ys timed (all-mapped (L .says-fix) (λ f g. g) (all-always (L .sayable) fs)) h)))))))))))))))
 
         -- where the second part begins: the output is as at first, and _4 has the stage r
         abbrev AtReady : List ℕ → Val → List (Item 𝓤)

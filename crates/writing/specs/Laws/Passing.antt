@@ -134,7 +134,7 @@ room-one K p at output e h = let g : at + K .size * 1 ≤ output = (rw e at h) i
 pub room-left : (K : Kind) (at m n output : ℕ) → n ≡ output → at + K .size * (m + 1) ≤ output → at + K .size + K .size * m ≤ n
 room-left K at m n output e h = omega (arith, e, h)
 
--- ---- the whole first pass: none of checks 7 to 9 looks at an empty list, and the scan says them of any other
+-- ---- the whole first pass: none of checks 7 to 9 and 20 looks at an empty list, and the scan says them of any other
 pub passed-none : (K : Kind) (l c : List ℕ) (s : List Fix) (output : ℕ) → Passed K checks l s Begins c → none ≡ first (says K s output) fix-checks
 passed-none K l c s output p = none-turned-away K s output (ap length (p .0))
 

@@ -13,11 +13,11 @@ use Rattle.distance.specs.Fix.{Fix}
 use Rattle.format.specs.Kinds.{Kind}
 use Rattle.format.specs.Format.{record-length, all-bytes, header-bytes}
 use Rattle.format.specs.Laws.Kinds.{IsKind}
-use Rattle.record.specs.Checks.{Check, bad-count, short-output, sentence, first, fix-checks, refusal, writing, some-outside, some-early, of-ends}
+use Rattle.record.specs.Checks.{Check, bad-count, short-output, sentence, first, fix-checks, refusal, writing, some-outside, some-early, some-other-silence, of-ends}
 use Rattle.writing.specs.Writing.{asked-to-write, write-refusal, write-answer, written}
 use Rattle.record.specs.Answers.{gives, turns-away}
 use Rattle.record.specs.Laws.First.{stops, passes, none-first, some-first, NoneHolds, no-check, and-not, none-holds}
-use Rattle.record.specs.Laws.Head.{neither}
+use Rattle.distance.specs.Integers.Tests.{neither}
 use Rattle.format.specs.Laws.Layout.{record-stores}
 
 abbrev pub says : Kind → List Fix → ℕ → Check → Bool
@@ -64,9 +64,9 @@ module _ (K : Kind) (l : List Fix) (output : ℕ) where
     unfolding first
     writes-none e s = count-passed ∙ none-first (says K l output) fix-checks (short-output ∷ []) e ∙ passes (says K l output) short-output [] (not-short s)
 
--- no fixes are turned away by none of checks 7 to 9
+-- no fixes are turned away by none of checks 7 to 9 and 20
 pub none-turned-away : (K : Kind) (l : List Fix) (output : ℕ) → length l ≡ 0 → none ≡ first (says K l output) fix-checks
-unfolding first sentence some-outside some-early of-ends
+unfolding first sentence some-outside some-early some-other-silence of-ends
 none-turned-away K [] output h = refl
 none-turned-away K (f ∷ l) output h = absurd (omega arith)
 
@@ -76,7 +76,7 @@ unfolding sentence
 writes-fit K l output h = go (none-holds (says K l output) (bad-count ∷ (fix-checks ++ short-output ∷ [])) h)
   where
     go : NoneHolds (says K l output) (bad-count ∷ (fix-checks ++ short-output ∷ [])) → (length l ≤ 4096) × (record-length K (length l) ≤ output)
-    go (and-not h3 (and-not h7 (and-not h8 (and-not h9 (and-not h15 no-check))))) =
+    go (and-not h3 (and-not h7 (and-not h8 (and-not h9 (and-not h20 (and-not h15 no-check)))))) =
         (ltb-false 4096 (length l) (neither (eqb (length l) 0) (ltb 4096 (length l)) h3 .1), ltb-false output (record-length K (length l)) h15)
 
 -- the answer and the output, as the definitions have them; n is the length of the list

@@ -1,16 +1,16 @@
-//! Many random cases of all operations, by the C interface and by the plain version, and moved in time and in
-//! millimetres by the C interface again: `compare [--cases N] [--seed S]`. A difference is printed with the smallest
+//! Many random cases of all operations, by the C interface and by the plain version, and moved in time and of other
+//! kinds by the C interface again: `compare [--cases N] [--seed S]`. A difference is printed with the smallest
 //! trail found that shows it, and the exit status is 1.
 #![forbid(unsafe_code)]
 
 use std::process::ExitCode;
 
 use trails_tests::cases::Settings;
-use trails_tests::compare::{plain, proved, run, tenfold, twin, Case, Outcome, Sides};
+use trails_tests::compare::{plain, proved, recast, run, twin, Case, Outcome, Sides};
 
 const USUAL: Settings = Settings {
     seed: 20_240_229,
-    cases: 20_000,
+    cases: 30_000,
 };
 
 fn main() -> ExitCode {
@@ -69,7 +69,7 @@ fn show(case: &Case) {
     show_outcome("plain", case, &plain(case));
     let others = [
         ("moved in time", twin::differing(&proved, case)),
-        ("in millimetres", tenfold::differing(&proved, case)),
+        ("of another kind", recast::differing(&proved, case)),
     ];
     for (how, other) in others {
         if let Some(other) = other {

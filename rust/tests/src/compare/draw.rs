@@ -1,13 +1,14 @@
 //! Cases for the comparison: a buffer, mostly with a small trail, and an operation that fits it or is refused.
 
 use super::{Case, Operation};
-use crate::cases::{in_columns, kind_of, spoil, Draft, Random};
+use crate::cases::{faults, faults_of_fixes, in_columns, kind_of, some_faults, spoil};
+use crate::cases::{Draft, Random};
 use crate::columns::Columns;
 use crate::plain::crossing::Question;
 use crate::plain::kinds::{Kind, KINDS};
 use crate::plain::lists::Call;
 use crate::plain::{read, Fix, Trail, MOST_FIXES, NEVER};
-use crate::questions::{Asked, Moment};
+use crate::questions::{Asked, Moment, Spoiled};
 use crate::shapes::{trail, SHAPES};
 
 /// A case, and the kind that its record was made as, before it was damaged.
@@ -33,11 +34,11 @@ fn case(made: Kind, random: &mut Random) -> Case {
         4 => Operation::Age(tolerance(kind, random)),
         5 => Operation::Days(days(kind, random)),
         6 => Operation::Run(calls(kind, random)),
-        7 => Operation::Place(asked::<Moment>(&buffer, [11, 12], random)),
-        8 => Operation::Crosses(asked::<Question>(&buffer, [13, 14], random)),
+        7 => Operation::Place(asked::<Moment>(&buffer, &[11, 12, 21], random)),
+        8 => Operation::Crosses(asked::<Question>(&buffer, &[13, 14], random)),
         9 => Operation::ReadAll(lent_columns(&buffer, random)),
         _ => {
-            let question = asked::<Question>(&buffer, [13, 14], random);
+            let question = asked::<Question>(&buffer, &[13, 14], random);
             Operation::CrossesAfter(calls(kind, random), question)
         }
     };
@@ -107,12 +108,10 @@ fn buffer(kind: Kind, random: &mut Random) -> Vec<u8> {
 fn damaged(kind: Kind, n: usize, random: &mut Random) -> Draft {
     let mut draft = accepted(kind, n, random);
     let most = random.pick(&[1, 1, 1, 2, 3]);
+    let mut all = faults(kind);
     // a lone fix has nobody to be out of order with
-    let last = if n == 1 { 7 } else { 9 };
-    let mut faults: Vec<u8> = (0..most).map(|_| random.between(1, last) as u8).collect();
-    faults.sort_by(|a, b| b.cmp(a));
-    faults.dedup();
-    for fault in faults {
+    all.retain(|fault| n > 1 || ![8, 9].contains(fault));
+    for fault in some_faults(&all, most, random) {
         draft.spoil(fault, random);
     }
     draft
@@ -152,8 +151,8 @@ fn lent_columns(buffer: &[u8], random: &mut Random) -> Columns {
         let more = count + random.between(1, 9);
         random.pick(&[0, less, count - 1, count, count, count + 1, more]) as usize
     };
-    let (t, x, y) = (length(), length(), length());
-    let lengths = random.pick(&[[t, t, t], [t, x, y]]);
+    let each = [length(), length(), length(), length()];
+    let lengths = random.pick(&[[each[0]; 4], each]);
     Columns::any(lengths, random)
 }
 
@@ -182,17 +181,16 @@ fn calls(kind: Kind, random: &mut Random) -> Vec<u32> {
         .collect()
 }
 
-/// A question of which three in four are good, and others have one of these faults or both.
-fn asked<Q: Asked>(buffer: &[u8], faults: [u8; 2], random: &mut Random) -> Q {
-    let [one, other] = faults;
-    let some: &[u8] = match random.between(0, 15) {
-        0 | 1 => &[one],
-        2 | 3 => &[other],
-        // the later check's fault first
-        4 => &[other, one],
-        _ => &[],
+/// A question of which two in three are good, and others have one of these faults or two.
+fn asked<Q: Asked>(buffer: &[u8], faults: &[u8], random: &mut Random) -> Q {
+    let many = match random.between(0, 15) {
+        0..=3 => 1,
+        4 => 2,
+        _ => 0,
     };
-    Q::spoiled(buffer, some, random)
+    let some = some_faults(faults, many, random);
+    let Spoiled { question, .. } = Q::spoiled(buffer, &some, random);
+    question
 }
 
 // ---- the writer
@@ -206,24 +204,25 @@ fn writing(kind: Kind, random: &mut Random) -> Case {
     let bytes = random.pick(&[length, long, long, short, length - 1]);
     Case {
         buffer: random.bytes(bytes as usize),
-        operation: Operation::Write(kind, columns(&list, random)),
+        operation: Operation::Write(kind, columns(kind, &list, random)),
     }
 }
 
-/// A list of fixes, good or refused by one of the checks 3, 7, 8 and 9, or some.
+/// A list of fixes, good or refused by one of the checks 3, 7, 8, 9 and 20, or some.
 fn list(kind: Kind, random: &mut Random) -> Vec<Fix> {
     let n = size(random).max(2);
     let mut list = any(kind, n, random).fixes;
     let kind = in_columns(kind);
+    let faults = faults_of_fixes(kind);
     match random.between(0, 19) {
         0 => list.clear(),
         1 if random.one_in(20) => list.resize(MOST_FIXES + 1, list[0]),
         2..=6 => {
-            let one = random.between(7, 9) as u8;
-            let other = random.between(7, 9) as u8;
-            spoil(one.max(other), kind, &mut list, random);
-            spoil(one.min(other), kind, &mut list, random);
+            for fault in some_faults(&faults, 2, random) {
+                spoil(fault, kind, &mut list, random);
+            }
         }
+        // which maybe was before a silence
         7 => list.truncate(1),
         8 => {
             list.truncate(1);
@@ -234,18 +233,22 @@ fn list(kind: Kind, random: &mut Random) -> Vec<Fix> {
     list
 }
 
-/// The columns of a list, of which two in some cases go on.
-fn columns(list: &[Fix], random: &mut Random) -> Columns {
+/// The columns of a list, of which all but one in some cases go on, with anything. What the writer isn't lent is empty.
+fn columns(kind: Kind, list: &[Fix], random: &mut Random) -> Columns {
     let mut columns = Columns::of(list);
-    let shortest = random.between(0, 5);
-    let mut more = || random.between(0, 9) as usize;
-    let (one, other) = (more(), more());
-    let Columns { t, x, y } = &mut columns;
-    match shortest {
-        0 => (x.resize(x.len() + one, 5), y.resize(y.len() + other, -7)),
-        1 => (t.resize(t.len() + one, 0), y.resize(y.len() + other, 7)),
-        2 => (t.resize(t.len() + one, 9), x.resize(x.len() + other, 7)),
-        _ => ((), ()),
-    };
+    let shortest = random.between(0, 7) as usize;
+    let mut more = [0; 4].map(|_| random.between(0, 9) as usize);
+    match more.get_mut(shortest) {
+        Some(more) => *more = 0,
+        None => more = [0; 4],
+    }
+    let Columns { t, x, y, silence } = &mut columns;
+    t.resize(t.len() + more[0], 9);
+    x.resize(x.len() + more[1], 5);
+    y.resize(y.len() + more[2], -7);
+    match kind.silences {
+        true => silence.resize(silence.len() + more[3], 7),
+        false => silence.clear(),
+    }
     columns
 }

@@ -7,7 +7,7 @@ use super::{Case, Operation};
 use crate::cases::Random;
 use crate::columns::Columns;
 use crate::plain::crossing::Question;
-use crate::plain::kinds::{Kind, CENTIMETRES, MILLIMETRES};
+use crate::plain::kinds::{Kind, CENTIMETRES};
 
 /// How many bytes of buffers may be tried, with some more for each try.
 const EFFORT: usize = 50_000_000;
@@ -50,6 +50,7 @@ impl Search<'_> {
     fn pass(&mut self) -> bool {
         let before = self.case.clone();
         self.shorten(Case::fixes_read, Case::without_fixes_and_rows);
+        self.shorten(Case::fixes, Case::without_fixes_before_positions);
         self.shorten(Case::fixes, Case::without_fixes);
         self.shorten(Case::rows, Case::without_rows_and_output);
         self.shorten(Case::rows, Case::without_rows);
@@ -93,6 +94,10 @@ impl Search<'_> {
         self.shorten(
             |case| case.filled().map_or(0, |columns| columns.y.len()),
             |case, range| case.with_columns(|columns| cut(&mut columns.y, &range)),
+        );
+        self.shorten(
+            |case| case.filled().map_or(0, |columns| columns.silence.len()),
+            |case, range| case.with_columns(|columns| cut(&mut columns.silence, &range)),
         );
     }
 
@@ -199,7 +204,17 @@ impl Case {
         case
     }
 
-    /// The same, if they are read into columns.
+    /// So that the fixes after these are read where they are then.
+    fn without_fixes_before_positions(&self, range: Range<usize>) -> Case {
+        let mut case = self.without_fixes(range.clone());
+        if let Operation::Read(positions) = &mut case.operation {
+            let later = positions.iter_mut().filter(|at| **at >= range.end);
+            later.for_each(|at| *at -= range.len());
+        }
+        case
+    }
+
+    /// How many fixes are read into columns.
     fn fixes_read(&self) -> usize {
         self.filled().map_or(0, |_| self.fixes())
     }
@@ -216,7 +231,7 @@ impl Case {
 
     /// How many rows the writer's longest column has.
     fn rows(&self) -> usize {
-        let lengths = self.written().map_or([0; 3], Columns::lengths);
+        let lengths = self.written().map_or([0; 4], Columns::lengths);
         lengths.into_iter().max().unwrap_or(0)
     }
 
@@ -225,6 +240,7 @@ impl Case {
             cut(&mut columns.t, &range);
             cut(&mut columns.x, &range);
             cut(&mut columns.y, &range);
+            cut(&mut columns.silence, &range);
         })
     }
 
@@ -236,23 +252,30 @@ impl Case {
         case
     }
 
-    /// The same numbers in the form of kind 1, if they are in that of kind 2 and a record's bytes hold each. An output
-    /// is as much too short, or too long, as it was, and a length as wrong.
+    /// The same numbers in the form of kind 1, if they are in another and a record's bytes hold each; of kind 3 the
+    /// silence bytes go. An output is as much too short, or too long, as it was, and a length as wrong.
     fn in_centimetres(&self) -> Option<Case> {
         let mut case = self.clone();
-        let less = MILLIMETRES.fix_bytes() - CENTIMETRES.fix_bytes();
-        if self.form() != MILLIMETRES {
+        let form = self.form();
+        let less = form.fix_bytes() - CENTIMETRES.fix_bytes();
+        if form == CENTIMETRES {
             return None;
         }
         if let Operation::Write(kind, columns) = &mut case.operation {
-            let shorter = less * columns.fixes().len();
+            let shorter = less * columns.fixes(form).len();
             let left = self.buffer.len().saturating_sub(shorter);
             case.buffer.truncate(left);
+            columns.silence.clear();
             *kind = CENTIMETRES;
             return Some(case);
         }
         for k in (0..self.fixes()).rev() {
-            for at in [self.at(k) + 8, self.at(k) + 4] {
+            let at = self.at(k);
+            if form.silences {
+                case.buffer.remove(at + 8);
+                continue;
+            }
+            for at in [at + 8, at + 4] {
                 i16::try_from(i32::from_le_bytes(self.array(at))).ok()?;
                 // the upper two bytes say only the sign
                 case.buffer.drain(at + 2..at + 4);
@@ -438,7 +461,9 @@ impl Case {
         if self.rest_from() > 0 {
             self.visit_at(6, change, u16::from_le_bytes, u16::to_le_bytes);
         }
-        let width = self.form().width;
+        let Kind {
+            width, silences, ..
+        } = self.form();
         for k in 0..self.fixes() {
             let x = self.at(k) + 4;
             for at in [x, x + width] {
@@ -446,6 +471,9 @@ impl Case {
                     2 => self.visit_at(at, change, i16::from_le_bytes, i16::to_le_bytes),
                     _ => self.visit_at(at, change, i32::from_le_bytes, i32::to_le_bytes),
                 }
+            }
+            if silences {
+                visit(&mut self.buffer[x + 2 * width], change);
             }
         }
         let from = self.rest_from();
@@ -470,12 +498,14 @@ impl Case {
         match &mut self.operation {
             Operation::Check | Operation::List => {}
             Operation::Read(positions) => positions.iter_mut().for_each(|n| visit(n, change)),
-            Operation::ReadAll(Columns { t, x, y }) => {
+            Operation::ReadAll(Columns { t, x, y, silence }) => {
                 t.iter_mut().for_each(|n| visit(n, change));
                 x.iter_mut().chain(y).for_each(|n| visit(n, change));
+                silence.iter_mut().for_each(|n| visit(n, change));
             }
-            Operation::Write(_, Columns { x, y, .. }) => {
+            Operation::Write(_, Columns { x, y, silence, .. }) => {
                 x.iter_mut().chain(y).for_each(|n| visit(n, change));
+                silence.iter_mut().for_each(|n| visit(n, change));
             }
             Operation::Age(n) | Operation::Days(n) => visit(n, change),
             Operation::Run(calls) => calls.iter_mut().for_each(|n| visit(n, change)),

@@ -4,13 +4,16 @@ use std::cmp::Ordering;
 use std::collections::BTreeMap;
 use std::fmt;
 
+use super::recast::{self, OTHERS};
 use super::{Case, Crossed, Operation, Reply};
 use crate::plain;
-use crate::plain::kinds::{Kind, KINDS, MILLIMETRES};
+use crate::plain::crossing::earliest;
+use crate::plain::kinds::{Kind, KINDS, MILLIMETRES, SILENCES};
 use crate::plain::thinning;
+use crate::plain::{Fix, Trail};
 
-/// The operations, and what each can be refused for besides checks 1 to 9; the writer makes only some of those. The
-/// listing tells its refusal in its text, so it is counted by what the checks say of its record.
+/// The operations, and what each can be refused for besides checks 1 to 9 and 20; the writer makes only some of those.
+/// The listing tells its refusal in its text, so it is counted by what the checks say of its record.
 const OPERATIONS: [(&str, &[usize]); 11] = [
     ("check", &[]),
     ("read", &[]),
@@ -20,19 +23,22 @@ const OPERATIONS: [(&str, &[usize]); 11] = [
     ("age", &[10]),
     ("days", &[]),
     ("run", &[]),
-    ("place", &[11, 12]),
+    ("place", &[11, 12, 21]),
     ("crosses", &[13, 14]),
     ("after", &[13, 14]),
 ];
 
 /// With so many cases none of them may be missing.
-const ENOUGH: usize = 20_000;
+const ENOUGH: usize = 30_000;
+
+/// No refusal, and all that there are, in checking order.
+const REFUSALS: [usize; 18] = [0, 1, 2, 3, 4, 5, 6, 7, 8, 9, 20, 10, 11, 12, 21, 13, 14, 15];
 
 /// What was met with records of one kind.
 #[derive(Default)]
 struct Block {
     /// by refusal, 0 for none, and operation
-    met: [[usize; OPERATIONS.len()]; 16],
+    met: [[usize; OPERATIONS.len()]; 22],
     said: BTreeMap<&'static str, usize>,
 }
 
@@ -41,18 +47,20 @@ pub struct Table {
     /// in the order of `KINDS`
     blocks: [Block; KINDS.len()],
     pub(super) twins: usize,
-    pub(super) tenfold: usize,
+    /// in the order of `OTHERS`
+    others: [usize; OTHERS.len()],
 }
 
 /// What answers that aren't refusals may say, or what they may be given to, each by its name.
-const SAID: [(&str, &[&str]); 4] = [
-    ("crossings", &["yes", "no"]),
+const SAID: [(&str, &[&str]); 5] = [
+    ("crossings", &["yes", "no", NOT_STRAIGHT]),
     ("lists", &["with calls turned away", "with none"]),
     (
         "columns",
         &["empty", "too short", "just enough", "longer", "unequal"],
     ),
-    ("agings", &[WIDE, APART]),
+    ("agings", &[WIDE, APART, NOT_ACROSS]),
+    ("silences of agings", &["none", "one", "some", EVERY]),
 ];
 
 /// Of agings: a sum of squares that 64 bits don't hold, and two of which only the part above 64 bits differs. Kind 1
@@ -60,9 +68,19 @@ const SAID: [(&str, &[&str]); 4] = [
 const WIDE: &str = "with sums above 64 bits";
 const APART: &str = "with sums apart above 64 bits only";
 
+/// Of crossings and agings: those of which something else came if silences were straight legs. And of agings, how many
+/// silences there were. Only kind 3 has any.
+const NOT_STRAIGHT: &str = "other than by straight legs";
+const NOT_ACROSS: &str = "other than across silences";
+const EVERY: &str = "after every fix but the last of several";
+
 /// Whether document 02 lets answers about this kind say it, or be given to it.
-fn can_be_said(kind: Kind, what: &str) -> bool {
-    kind == MILLIMETRES || ![WIDE, APART].contains(&what)
+fn can_be_said(kind: Kind, group: &str, what: &str) -> bool {
+    let of_silences = [NOT_STRAIGHT, NOT_ACROSS].contains(&what) || group.starts_with("silences");
+    match what {
+        WIDE | APART => kind == MILLIMETRES,
+        _ => kind == SILENCES || !of_silences,
+    }
 }
 
 fn column(operation: &Operation) -> usize {
@@ -83,8 +101,8 @@ fn column(operation: &Operation) -> usize {
 
 fn said(case: &Case, reply: &Reply) -> Vec<&'static str> {
     match (&case.operation, reply) {
-        (_, Reply::Crossing(Crossed::Yes(_))) => vec!["yes"],
-        (_, Reply::Crossing(Crossed::No)) => vec!["no"],
+        (_, Reply::Crossing(Crossed::Yes(_))) => said_of_crossing(case, "yes"),
+        (_, Reply::Crossing(Crossed::No)) => said_of_crossing(case, "no"),
         (_, Reply::Run(run)) if run.refusal == 0 => match run.turned_away {
             0 => vec!["with none"],
             _ => vec!["with calls turned away"],
@@ -92,14 +110,59 @@ fn said(case: &Case, reply: &Reply) -> Vec<&'static str> {
         (Operation::ReadAll(columns), Reply::Answer(answer)) if answer.refusal == 0 => {
             said_of_columns(columns.lengths(), answer.value as usize)
         }
-        (Operation::Age(_), Reply::Answer(answer)) if answer.refusal == 0 => {
-            said_of_sums(&case.buffer)
+        (Operation::Age(e), Reply::Answer(answer)) if answer.refusal == 0 => {
+            let trail = plain::read(&case.buffer);
+            trail.map_or(Vec::new(), |trail| match trail.kind {
+                MILLIMETRES => said_of_sums(&trail),
+                _ => said_of_silences(&trail, *e),
+            })
         }
         _ => Vec::new(),
     }
 }
 
-fn said_of_columns(lengths: [usize; 3], count: usize) -> Vec<&'static str> {
+/// The same fixes with no silence.
+fn unbroken(fixes: &[Fix]) -> Vec<Fix> {
+    let unbroken = |fix: &Fix| Fix { silence: 0, ..*fix };
+    fixes.iter().map(unbroken).collect()
+}
+
+fn said_of_crossing(case: &Case, answer: &'static str) -> Vec<&'static str> {
+    let (Operation::Crosses(question), Ok(trail)) = (&case.operation, plain::read(&case.buffer))
+    else {
+        return vec![answer];
+    };
+    let [one, other] = [&trail.fixes, &unbroken(&trail.fixes)].map(|of| earliest(of, question));
+    let same = match (one, other) {
+        (Some(one), Some(other)) => one.order(&other).is_eq(),
+        (one, other) => one.is_none() && other.is_none(),
+    };
+    match same {
+        true => vec![answer],
+        false => vec![answer, NOT_STRAIGHT],
+    }
+}
+
+fn said_of_silences(trail: &Trail, e: u16) -> Vec<&'static str> {
+    let Trail { fixes, .. } = trail;
+    let silent = fixes.iter().filter(|fix| fix.is_before_silence()).count();
+    let mut said = vec![match silent {
+        0 => "none",
+        1 => "one",
+        many if many + 1 == fixes.len() => EVERY,
+        _ => "some",
+    }];
+    let times = |fixes: &[Fix]| -> Vec<u32> {
+        let kept = thinning::thin(fixes, e).kept;
+        kept.iter().map(|fix| fix.t).collect()
+    };
+    if times(fixes) != times(&unbroken(fixes)) {
+        said.push(NOT_ACROSS);
+    }
+    said
+}
+
+fn said_of_columns(lengths: [usize; 4], count: usize) -> Vec<&'static str> {
     let one = |length: usize| match length.cmp(&count) {
         _ if length == 0 => "empty",
         Ordering::Less => "too short",
@@ -107,16 +170,15 @@ fn said_of_columns(lengths: [usize; 3], count: usize) -> Vec<&'static str> {
         Ordering::Greater => "longer",
     };
     let mut said: Vec<&str> = lengths.map(one).into();
-    if lengths != [lengths[0]; 3] {
+    if lengths != [lengths[0]; 4] {
         said.push("unequal");
     }
     said
 }
 
 /// Of the sums that the whole trail's inner fixes have.
-fn said_of_sums(record: &[u8]) -> Vec<&'static str> {
-    let trail = plain::read(record);
-    let mut sums = trail.map_or(Vec::new(), |trail| thinning::sums(&trail.fixes));
+fn said_of_sums(trail: &Trail) -> Vec<&'static str> {
+    let mut sums = thinning::sums(&trail.fixes);
     let low = |sum: &i128| *sum as u64;
     sums.sort_by_key(|sum| (low(sum), *sum));
     let mut pairs = sums.windows(2);
@@ -129,15 +191,16 @@ fn said_of_sums(record: &[u8]) -> Vec<&'static str> {
         .collect()
 }
 
-/// Whether document 01 has this refusal among the operation's.
-fn possible(column: usize, refusal: usize) -> bool {
+/// Whether the documents have this refusal among the operation's, about this kind.
+fn possible(kind: Kind, column: usize, refusal: usize) -> bool {
     let (name, own) = OPERATIONS[column];
     let writes = name == "write";
-    match refusal {
-        0 => true,
+    let makes = match refusal {
+        0 | 20 => true,
         1..=9 => !writes || [3, 7, 8, 9].contains(&refusal),
         _ => own.contains(&refusal),
-    }
+    };
+    makes && kind.can_fail(refusal as u32)
 }
 
 impl Block {
@@ -148,20 +211,22 @@ impl Block {
     fn missing(&self, kind: Kind) -> Vec<String> {
         let mut missing = Vec::new();
         for (column, (name, _)) in OPERATIONS.iter().enumerate() {
-            let unmet =
-                |&refusal: &usize| possible(column, refusal) && self.met[refusal][column] == 0;
-            let unmet = (0..self.met.len()).filter(unmet);
+            let unmet = |&refusal: &usize| {
+                possible(kind, column, refusal) && self.met[refusal][column] == 0
+            };
+            let unmet = REFUSALS.into_iter().filter(unmet);
             missing.extend(unmet.map(|refusal| format!("{kind}: {name} with refusal {refusal}")));
         }
         for (group, all) in SAID {
-            let unmet = |what: &&&str| can_be_said(kind, what) && !self.said.contains_key(**what);
+            let unmet =
+                |what: &&&str| can_be_said(kind, group, what) && !self.said.contains_key(**what);
             let unmet = all.iter().filter(unmet);
             missing.extend(unmet.map(|what| format!("{kind}: {group} {what}")));
         }
         missing
     }
 
-    fn row(&self, f: &mut fmt::Formatter, refusal: usize) -> fmt::Result {
+    fn row(&self, f: &mut fmt::Formatter, kind: Kind, refusal: usize) -> fmt::Result {
         let name = match refusal {
             0 => "accepted".to_string(),
             number => format!("refused {number}"),
@@ -169,7 +234,7 @@ impl Block {
         write!(f, "{name:12}")?;
         for (column, many) in self.met[refusal].iter().enumerate() {
             let shown = match many {
-                0 if !possible(column, refusal) => "-".to_string(),
+                0 if !possible(kind, column, refusal) => "-".to_string(),
                 many => many.to_string(),
             };
             write!(f, "{shown:>8}")?;
@@ -179,13 +244,15 @@ impl Block {
 
     /// The table of one kind, under its name.
     fn show(&self, f: &mut fmt::Formatter, kind: Kind) -> fmt::Result {
-        write!(f, "{:12}", kind.unit)?;
+        write!(f, "{:12}", kind.name)?;
         for (name, _) in OPERATIONS {
             write!(f, "{name:>8}")?;
         }
         writeln!(f, "{:>9}", "all")?;
-        for refusal in 0..self.met.len() {
-            self.row(f, refusal)?;
+        // of a kind that can't meet them, the rows are left out
+        let can = |&refusal: &usize| kind.can_fail(refusal as u32);
+        for refusal in REFUSALS.into_iter().filter(can) {
+            self.row(f, kind, refusal)?;
         }
         write!(f, "{:12}", "all")?;
         for column in 0..OPERATIONS.len() {
@@ -194,7 +261,7 @@ impl Block {
         }
         writeln!(f, "{:>9}", self.cases())?;
         for (group, all) in SAID {
-            let can = all.iter().filter(|what| can_be_said(kind, what));
+            let can = all.iter().filter(|what| can_be_said(kind, group, what));
             let met = |what| self.said.get(what).copied().unwrap_or(0);
             let shown: Vec<String> = can.map(|&what| format!("{} {what}", met(what))).collect();
             if !shown.is_empty() {
@@ -220,8 +287,21 @@ impl Table {
         }
     }
 
+    /// Counts the other kinds that a case is asked of.
+    pub fn recast(&mut self, case: &Case) {
+        for ((kind, _), many) in OTHERS.into_iter().zip(&mut self.others) {
+            *many += usize::from(recast::recast(case, kind).is_some());
+        }
+    }
+
     fn cases(&self) -> usize {
         self.blocks.iter().map(Block::cases).sum()
+    }
+
+    /// What else the proved side was asked of cases, and how often.
+    fn relations(&self) -> Vec<(&'static str, usize)> {
+        let others = OTHERS.map(|(_, what)| what).into_iter().zip(self.others);
+        [("twins", self.twins)].into_iter().chain(others).collect()
     }
 
     /// What should have been met and wasn't, where the cases are enough.
@@ -233,8 +313,7 @@ impl Table {
         for (kind, block) in KINDS.into_iter().zip(&self.blocks) {
             missing.extend(block.missing(kind));
         }
-        let relations = [("twins", self.twins), ("ten times", self.tenfold)];
-        let unmet = relations.into_iter().filter(|(_, many)| *many == 0);
+        let unmet = self.relations().into_iter().filter(|(_, many)| *many == 0);
         missing.extend(unmet.map(|(what, _)| what.to_string()));
         missing
     }
@@ -246,8 +325,9 @@ impl fmt::Display for Table {
             block.show(f, kind)?;
             writeln!(f)?;
         }
-        writeln!(f, "twins: {}", self.twins)?;
-        writeln!(f, "ten times: {}", self.tenfold)?;
+        for (what, many) in self.relations() {
+            writeln!(f, "{what}: {many}")?;
+        }
         write!(f, "{} cases, 0 differences", self.cases())
     }
 }

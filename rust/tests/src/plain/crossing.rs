@@ -1,8 +1,8 @@
 //! A plain version of the crossing question, and of what the claim about lists of agings says of a box and a place.
 
 use super::kinds::Kind;
-use super::place::{Place, Time};
-use super::{read, refuse_if, Fix, Trail};
+use super::place::{is_silent, Place, Time};
+use super::{read, refuse_if, stretches, Fix, Trail};
 
 /// A box, whose edges belong to it.
 #[derive(Clone, Copy, Debug, PartialEq, Eq)]
@@ -102,35 +102,43 @@ fn meeting(from: (u32, i32), to: (u32, i32), edge: i32) -> Option<Time> {
     (change != 0 && time.from_to(from.0, to.0)).then_some(time)
 }
 
-/// Every time of the window at which the trail meets an edge's line, and the window's start.
+/// The legs of a trail, but for the silent ones: "only the two ends of a silent leg count", and each is in a stretch.
+fn legs(fixes: &[Fix]) -> impl Iterator<Item = &[Fix]> {
+    stretches(fixes).flat_map(|stretch| stretch.windows(2))
+}
+
+/// Every time of the window at which the trail meets an edge's line, the start of every stretch, and the window's
+/// start.
 ///
-/// If the trail is in the box at some time of the window, then at one of these first: the times in the box are closed,
-/// so there is an earliest, and if that isn't the start then the trail was outside just before, on the same leg, so a
-/// coordinate came to its edge there, and on a leg where it changes.
+/// If the trail is in the box at some time of the window, then at one of these first: the times in the box are closed
+/// on each stretch, so there is an earliest, and if that is neither the window's start nor a stretch's then the trail
+/// was outside just before, on the same leg, so a coordinate came to its edge there, and on a leg where it changes.
 fn arrivals(fixes: &[Fix], question: &Question) -> Vec<Time> {
     let Window { start, end } = question.window;
-    let legs = fixes.windows(2);
     let mut times = vec![Time::whole(start)];
-    times.extend(legs.flat_map(|leg| question.area.meetings(leg[0], leg[1])));
+    times.extend(stretches(fixes).map(|stretch| Time::whole(stretch[0].t)));
+    times.extend(legs(fixes).flat_map(|leg| question.area.meetings(leg[0], leg[1])));
     times.retain(|time| time.from_to(start, end));
     times
 }
 
-/// The earliest time of the window with the trail in the box, if there is one.
+/// The earliest time of the window with the trail in the box, if there is one. Inside a silence it is nowhere.
 pub fn earliest(fixes: &[Fix], question: &Question) -> Option<Time> {
-    let inside = |time: &Time| question.area.holds(&Place::at(fixes, *time));
+    let inside =
+        |time: &Time| !is_silent(fixes, *time) && question.area.holds(&Place::at(fixes, *time));
     let times = arrivals(fixes, question).into_iter();
     times.filter(inside).min_by(Time::order)
 }
 
 /// Times of the window such that what a trail does between two neighbours, as to the box and to the box shrunk by e, it
 /// does at each time between them: the window's ends, all fixes, all meetings with an edge of either box, and a time
-/// between each two neighbours. So what holds at these holds at all times of the window.
+/// between each two neighbours, but for times inside silences. So what holds at these holds at all times of the window
+/// outside silences.
 pub fn telling_times(fixes: &[Fix], question: &Question, e: u16) -> Vec<Time> {
     let Window { start, end } = question.window;
     let mut times = vec![Time::whole(start), Time::whole(end)];
     times.extend(fixes.iter().map(|fix| Time::whole(fix.t)));
-    for leg in fixes.windows(2) {
+    for leg in legs(fixes) {
         times.extend(question.area.meetings(leg[0], leg[1]));
         times.extend(question.area.shrunk(e).meetings(leg[0], leg[1]));
     }
@@ -140,6 +148,7 @@ pub fn telling_times(fixes: &[Fix], question: &Question, e: u16) -> Vec<Time> {
     let between = times.windows(2).map(|pair| pair[0].midway(&pair[1]));
     let between: Vec<Time> = between.collect();
     times.extend(between);
+    times.retain(|time| !is_silent(fixes, *time));
     times
 }
 
@@ -157,7 +166,7 @@ fn bad_box(kind: Kind, area: Area) -> bool {
     edges.any(outside) || area.left > area.right || area.bottom > area.top
 }
 
-/// The crossing question: checks 1 to 9, 13 and 14. The time is in seconds after the first fix.
+/// The crossing question: checks 1 to 9, 20, 13 and 14. The time is in seconds after the first fix.
 pub fn crosses(lent: &[u8], question: &Question) -> Result<Option<Time>, u8> {
     let Trail { kind, fixes, .. } = read(lent)?;
     refuse_if(13, bad_window(question.window, &fixes))?;

@@ -1,4 +1,5 @@
-//! The two kinds of record: document 01's in centimetres, and in millimetres that of document 02's item 8.
+//! The three kinds of record: document 01's in centimetres, in millimetres that of document 02's item 8, and with
+//! silences that of its item 5.
 
 use std::fmt;
 
@@ -7,11 +8,14 @@ use super::HEAD;
 /// A kind's numbers. All lengths are in its unit.
 #[derive(Clone, Copy, PartialEq, Eq)]
 pub struct Kind {
+    pub name: &'static str,
     pub unit: &'static str,
     /// what the kind field has
     pub code: u16,
     /// the bytes of an x and of a y
     pub width: usize,
+    /// whether a byte after each fix says if a silence follows
+    pub silences: bool,
     /// a place and a box's edge are from minus this to this
     pub limit: i32,
     /// the greatest tolerance, and the greatest mark but never
@@ -24,9 +28,11 @@ pub struct Kind {
 
 /// "kind (2 bytes, 1 = trail)"
 pub const CENTIMETRES: Kind = Kind {
+    name: "centimetres",
     unit: "centimetres",
     code: 1,
     width: 2,
+    silences: false,
     limit: 16_000,
     top: 32_000,
     times: 1,
@@ -36,29 +42,45 @@ pub const CENTIMETRES: Kind = Kind {
 /// "Kind 2 has fixes of 12 bytes: time, x, y of 4 bytes each, places −160,000 to 160,000, length 10 + 12n, tolerance
 /// and mark up to 60,000 or never, all in millimetres."
 pub const MILLIMETRES: Kind = Kind {
+    name: "millimetres",
     unit: "millimetres",
     code: 2,
     width: 4,
+    silences: false,
     limit: 160_000,
     top: 60_000,
     times: 10,
     denominator: 320_000,
 };
 
-pub const KINDS: [Kind; 2] = [CENTIMETRES, MILLIMETRES];
+/// "Kind 3 is kind 1 with one byte after each fix, which reader and writer pass on: 1 = silence follows, 0 = none; its
+/// length is 10 + 9n."
+pub const SILENCES: Kind = Kind {
+    name: "silences",
+    code: 3,
+    silences: true,
+    ..CENTIMETRES
+};
+
+pub const KINDS: [Kind; 3] = [CENTIMETRES, MILLIMETRES, SILENCES];
 
 impl Kind {
     pub fn with_code(code: u16) -> Option<Kind> {
         KINDS.into_iter().find(|kind| kind.code == code)
     }
 
-    /// A time and two coordinates.
+    /// A time, two coordinates, and maybe the silence byte.
     pub fn fix_bytes(self) -> usize {
-        4 + 2 * self.width
+        4 + 2 * self.width + usize::from(self.silences)
     }
 
     pub fn record_length(self, fixes: usize) -> usize {
         HEAD + self.fix_bytes() * fixes
+    }
+
+    /// Whether records of this kind can be turned away for it: checks 20 and 21 are about silences.
+    pub fn can_fail(self, check: u32) -> bool {
+        self.silences || check < 20
     }
 
     /// Whether a coordinate or an edge is beyond the limits.
@@ -69,7 +91,7 @@ impl Kind {
 
 impl fmt::Display for Kind {
     fn fmt(&self, to: &mut fmt::Formatter) -> fmt::Result {
-        to.write_str(self.unit)
+        to.write_str(self.name)
     }
 }
 

@@ -1,5 +1,6 @@
 //! A plain version of the place question: where the cart was at a moment.
 
+use super::place::{is_silent, Time};
 use super::{read, refuse_if, Fix};
 
 /// The place (x/denominator, y/denominator), not reduced, and the rounded one beside it.
@@ -55,7 +56,7 @@ fn thousandths_of(fix: Fix) -> i128 {
     1_000 * i128::from(fix.t)
 }
 
-/// The place question: checks 1 to 9, 11 and 12.
+/// The place question: checks 1 to 9, 20, 11, 12 and 21.
 pub fn place(lent: &[u8], second: u32, thousandths: u16) -> Result<Whereabouts, u8> {
     let fixes = read(lent)?.fixes;
     refuse_if(11, thousandths > 999)?;
@@ -63,5 +64,10 @@ pub fn place(lent: &[u8], second: u32, thousandths: u16) -> Result<Whereabouts, 
     let (first, last) = (fixes[0], fixes[fixes.len() - 1]);
     let outside = moment < thousandths_of(first) || moment > thousandths_of(last);
     refuse_if(12, outside)?;
+    let time = Time {
+        p: moment,
+        q: 1_000,
+    };
+    refuse_if(21, is_silent(&fixes, time))?;
     Ok(Whereabouts::at(&fixes, moment))
 }

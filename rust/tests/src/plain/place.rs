@@ -1,5 +1,5 @@
-//! Where a trail has its cart at a fractional time, and whether two places are near. Nothing is divided, so nothing
-//! is rounded.
+//! Where a trail has its cart at a fractional time, whether it is silent then, and whether two places are near. Nothing
+//! is divided, so nothing is rounded.
 
 use std::cmp::Ordering;
 
@@ -50,6 +50,23 @@ impl Time {
     }
 }
 
+/// The position of the first fix that isn't earlier than the time, which is where its leg ends.
+fn leg_end(fixes: &[Fix], time: Time) -> usize {
+    fixes.partition_point(|fix| Time::whole(fix.t).order(&time).is_lt())
+}
+
+/// Whether the time is strictly inside a silence. The two ends of one aren't.
+pub fn is_silent(fixes: &[Fix], time: Time) -> bool {
+    match leg_end(fixes, time) {
+        0 => false,
+        end => {
+            let before = fixes[end - 1].is_before_silence();
+            let next = fixes.get(end).map(|fix| Time::whole(fix.t));
+            before && next.is_some_and(|next| time.order(&next).is_lt())
+        }
+    }
+}
+
 /// The place (x/d, y/d), with d at least 1.
 #[derive(Clone, Copy, Debug)]
 pub struct Place {
@@ -83,9 +100,9 @@ impl Place {
         }
     }
 
-    /// A trail's place at a time from its first fix to its last.
+    /// A trail's place at a time from its first fix to its last, outside silences.
     pub fn at(fixes: &[Fix], time: Time) -> Place {
-        match fixes.partition_point(|fix| time.q * i128::from(fix.t) < time.p) {
+        match leg_end(fixes, time) {
             0 => Place::of(fixes[0]),
             end => Place::between(fixes[end - 1], fixes[end], time),
         }

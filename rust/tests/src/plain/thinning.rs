@@ -1,7 +1,7 @@
 //! A plain version of thinning and of aging.
 
 use super::kinds::Kind;
-use super::{read, refuse_if, Fix, Trail, NEVER};
+use super::{read, refuse_if, stretches, Fix, Trail, NEVER};
 
 /// What a thinning keeps, and the count: one for each inner fix measured in each span examined.
 #[derive(Debug, PartialEq, Eq)]
@@ -56,8 +56,19 @@ pub fn sums(fixes: &[Fix]) -> Vec<i128> {
     inner.iter().map(|&m| span.sum(m)).collect()
 }
 
-/// Douglas-Peucker. Spans that are still to be examined wait in a list, so no depth of splitting can matter.
+/// "Each stretch between silences is thinned by itself, the counts added."
 pub fn thin(fixes: &[Fix], e: u16) -> Thinned {
+    let pieces: Vec<Thinned> = stretches(fixes)
+        .map(|stretch| thin_stretch(stretch, e))
+        .collect();
+    Thinned {
+        count: pieces.iter().map(|piece| piece.count).sum(),
+        kept: pieces.into_iter().flat_map(|piece| piece.kept).collect(),
+    }
+}
+
+/// Douglas-Peucker. Spans that are still to be examined wait in a list, so no depth of splitting can matter.
+fn thin_stretch(fixes: &[Fix], e: u16) -> Thinned {
     let last = fixes.len() - 1;
     let mut keep = vec![false; fixes.len()];
     keep[0] = true;
@@ -99,7 +110,7 @@ fn rewrite(lent: &mut [u8], trail: &Trail, e: u16) -> u32 {
     count
 }
 
-/// Aging by tolerance: checks 1 to 10.
+/// Aging by tolerance: checks 1 to 9, 20 and 10.
 pub fn age(lent: &mut [u8], e: u16) -> Result<u32, u8> {
     let trail = read(lent)?;
     refuse_if(10, e > trail.kind.top)?;
@@ -119,7 +130,7 @@ pub fn tolerance_of(kind: Kind, days: u16) -> Option<u16> {
     Some(kind.top.min(kind.times * row))
 }
 
-/// Aging by days: checks 1 to 9.
+/// Aging by days: checks 1 to 9 and 20.
 pub fn age_by_days(lent: &mut [u8], days: u16) -> Result<u32, u8> {
     let trail = read(lent)?;
     let aged = tolerance_of(trail.kind, days).map(|e| rewrite(lent, &trail, e));

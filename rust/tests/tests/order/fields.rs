@@ -27,7 +27,7 @@ macro_rules! layout {
 pub fn layouts() -> [Layout; 6] {
     [
         layout!("trails_head", Head: refusal, kind, count, mark),
-        layout!("trails_step", Step: refusal, found, kind, t, x, y),
+        layout!("trails_step", Step: refusal, found, kind, t, x, y, silence),
         layout!("trails_answer", Answer: refusal, value),
         layout!("trails_run", Run: refusal, turned_away),
         layout!("trails_place", Place: refusal, denominator, x, y, whole_x, whole_y),
@@ -45,6 +45,7 @@ pub fn of_step(step: Step) -> Vec<i64> {
     [
         &[step.refusal, step.found, step.kind, step.t].map(i64::from)[..],
         &place,
+        &[step.silence.into()],
     ]
     .concat()
 }

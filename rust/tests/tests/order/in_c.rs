@@ -85,6 +85,7 @@ pub fn from_c(name: &str, calls: &[InC]) -> Vec<Vec<i64>> {
         array("uint32_t", "t", &columns.t),
         array("int32_t", "x", &columns.x),
         array("int32_t", "y", &columns.y),
+        array("uint8_t", "silence", &columns.silence),
         array("uint32_t", "calls", &CALLS),
         format!(
             "static uint8_t output[TRAILS_TEXT];
@@ -93,6 +94,7 @@ static void prepare(void) {{
     memcpy(t, t_before, sizeof t);
     memcpy(x, x_before, sizeof x);
     memcpy(y, y_before, sizeof y);
+    memcpy(silence, silence_before, sizeof silence);
     memcpy(calls, calls_before, sizeof calls);
     memset(output, 0, sizeof output);
 }}
@@ -102,6 +104,7 @@ static void rest(void) {{
     for (int k = 0; k < {many}; k++) number(t[k]);
     for (int k = 0; k < {many}; k++) number(x[k]);
     for (int k = 0; k < {many}; k++) number(y[k]);
+    for (int k = 0; k < {many}; k++) number(silence[k]);
     for (int k = 0; k < {OUTPUT_BYTES}; k++) number(output[k]);
     printf(\"\\n\");
 }}

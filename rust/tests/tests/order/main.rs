@@ -13,11 +13,12 @@ use fields::{
     layouts, of_answer, of_crossing, of_head, of_place, of_run, of_step, of_time, Layout,
 };
 use in_c::{from_c, printed, InC};
-use lent::{Lent, CALLS, DAYS, OUTPUT_BYTES, POSITION, QUESTION, SECOND, THOUSANDTHS, TOLERANCE};
-use trails_tests::columns::Columns;
-use trails_tests::plain::kinds::{Kind, CENTIMETRES, MILLIMETRES};
+use lent::{Lent, BEFORE_SILENCE, CALLS, DAYS, OUTPUT_BYTES, POSITION, QUESTION, SECOND};
+use lent::{THOUSANDTHS, TOLERANCE};
+use trails_tests::plain::kinds::{Kind, CENTIMETRES, MILLIMETRES, SILENCES};
 use trails_tests::plain::lists::{self, Call};
 use trails_tests::plain::{self, crossing};
+use trails_tests::programs::project;
 use trails_tests::{expected, interface};
 
 #[test]
@@ -42,6 +43,7 @@ fn constants_are_the_documents() {
     let constants = [
         ("CENTIMETRES", usize::from(CENTIMETRES.code)),
         ("MILLIMETRES", MILLIMETRES.code.into()),
+        ("SILENCES", SILENCES.code.into()),
         ("NEVER", plain::NEVER.into()),
         ("LONGEST", plain::LONGEST),
         ("TEXT", interface::LONGEST_TEXT),
@@ -52,6 +54,23 @@ fn constants_are_the_documents() {
         want += &format!("{name} {number}\n");
     }
     assert_eq!(printed("constants", &(source + "return 0;\n}\n")), want);
+}
+
+/// The refusals stand in the header in checking order, each with a number of the documents.
+#[test]
+fn refusals_stand_in_checking_order() {
+    let text = std::fs::read_to_string(project().join("include/trails.h")).expect("it is there");
+    let (_, after) = text.split_once("enum {").expect("its refusals");
+    let (all, _) = after.split_once("};").expect("their end");
+    let number = |line: &str| line.split_once(" = ").map(|(_, after)| first_number(after));
+    let numbers: Vec<u32> = all.lines().filter_map(number).collect();
+    let order = [0, 1, 2, 3, 4, 5, 6, 7, 8, 9, 20, 10, 11, 12, 21, 13, 14, 15];
+    assert_eq!(numbers, order);
+}
+
+fn first_number(text: &str) -> u32 {
+    let digits: String = text.chars().take_while(char::is_ascii_digit).collect();
+    digits.parse().expect("a number")
 }
 
 /// What the plain version answers to a function, with all that was lent after it.
@@ -65,6 +84,7 @@ fn plainly(name: &str) -> Vec<i64> {
         "trails_read_all" => plain_read_all(&mut lent),
         "trails_write" => plain_write(CENTIMETRES, &mut lent),
         "trails_write_millimetres" => plain_write(MILLIMETRES, &mut lent),
+        "trails_write_silences" => plain_write(SILENCES, &mut lent),
         "trails_list" => {
             let text = plain::listing(record).into_bytes();
             lent.output[..text.len()].copy_from_slice(&text);
@@ -81,47 +101,44 @@ fn plainly(name: &str) -> Vec<i64> {
     [answer, lent.numbers()].concat()
 }
 
-fn plain_columns(lent: &mut Lent) -> Columns {
-    let (t, x, y) = lent.lent_columns();
-    let (t, x, y) = (t.to_vec(), x.to_vec(), y.to_vec());
-    Columns { t, x, y }
-}
-
 fn plain_read_all(lent: &mut Lent) -> Vec<i64> {
-    let mut columns = plain_columns(lent);
+    let mut columns = lent.lent_columns();
     let answer = expected::read_all(&lent.record, &mut columns);
-    let (t, x, y) = lent.lent_columns();
-    t.copy_from_slice(&columns.t);
-    x.copy_from_slice(&columns.x);
-    y.copy_from_slice(&columns.y);
+    lent.give_back(columns);
     of_answer(answer)
 }
 
 fn plain_write(kind: Kind, lent: &mut Lent) -> Vec<i64> {
-    let list = plain_columns(lent).fixes();
+    let list = lent.lent_columns().fixes(kind);
     let output = &mut lent.output[..OUTPUT_BYTES];
     of_answer(expected::write(kind, &list, output))
+}
+
+/// The kind that a writer writes.
+fn written_by(name: &str) -> Kind {
+    match name {
+        "trails_write" => CENTIMETRES,
+        "trails_write_millimetres" => MILLIMETRES,
+        _ => SILENCES,
+    }
 }
 
 /// What the proved functions answer when Rust calls them.
 fn from_rust(name: &str) -> Vec<i64> {
     let mut lent = Lent::new();
-    let mut other = Lent::new();
+    let mut columns = lent.lent_columns();
     let record = &mut lent.record;
     let answer = match name {
         "trails_check" => of_head(interface::check(record)),
         "trails_read" => of_step(interface::read(record, POSITION)),
         "trails_read_all" => {
-            let (t, x, y) = lent.lent_columns();
-            of_answer(trails::interface::read_all(&other.record, t, x, y))
+            let answer = interface::read_all(record, &mut columns);
+            lent.give_back(columns);
+            of_answer(answer)
         }
-        "trails_write" | "trails_write_millimetres" => {
-            let kind = match name {
-                "trails_write" => CENTIMETRES,
-                _ => MILLIMETRES,
-            };
+        "trails_write" | "trails_write_millimetres" | "trails_write_silences" => {
             let output = &mut lent.output[..OUTPUT_BYTES];
-            of_answer(interface::write(kind, &plain_columns(&mut other), output))
+            of_answer(interface::write(written_by(name), &columns, output))
         }
         "trails_list" => vec![interface::list(record, &mut lent.output) as i64],
         "trails_age" => of_answer(interface::age(record, TOLERANCE)),
@@ -149,6 +166,24 @@ fn c_calls_in_the_headers_order_are_answered_as_the_plain_version_does() {
     }
 }
 
+/// The header's struct by the C names of its fields, of a fix that is before a silence.
+#[test]
+fn a_silence_is_told_apart_from_what_is_equal_to_it() {
+    let functions = in_header().into_iter();
+    let mut read: Vec<InC> = functions
+        .filter(|function| function.name == "trails_read")
+        .map(InC::of)
+        .collect();
+    read[0].arguments[2] = BEFORE_SILENCE.to_string();
+    let lent = Lent::new();
+    let want = of_step(expected::read(&lent.record, BEFORE_SILENCE));
+    assert_eq!(want.last(), Some(&1));
+    let want = [want, lent.numbers()].concat();
+    assert_eq!(from_c("silence", &read), [want]);
+    let told = interface::read(&lent.record, BEFORE_SILENCE);
+    assert_eq!(told, expected::read(&lent.record, BEFORE_SILENCE));
+}
+
 #[test]
 fn rust_calls_are_answered_as_the_plain_version_does() {
     for Function { name, .. } in in_header() {
@@ -171,8 +206,23 @@ fn exchanged(function: &Function) -> Vec<InC> {
     all
 }
 
+/// The columns of a writer with each two of their lengths exchanged.
+fn other_lengths(columns: &[&str]) -> Vec<String> {
+    let mut all = Vec::new();
+    for k in 0..columns.len() {
+        for j in k + 1..columns.len() {
+            let mut lengths: Vec<usize> = (1..=columns.len()).collect();
+            lengths.swap(k, j);
+            let lent = columns.iter().zip(lengths);
+            let lent: Vec<String> = lent.map(|(name, many)| format!("{name}, {many}")).collect();
+            all.push(format!("{}, output, {OUTPUT_BYTES}", lent.join(", ")));
+        }
+    }
+    all
+}
+
 /// So that the values are no accident: with any two exchanged, something else comes of the call. Of a writer's columns
-/// the shortest counts, whichever it is, so of their three lengths no exchange is seen by calls.
+/// the shortest counts, whichever it is, so of their lengths no exchange is seen by calls.
 #[test]
 fn each_exchange_of_two_arguments_would_be_seen() {
     let calls: Vec<InC> = in_header().iter().flat_map(exchanged).collect();
@@ -182,9 +232,9 @@ fn each_exchange_of_two_arguments_would_be_seen() {
         .filter(|(call, numbers)| *numbers == plainly(&call.function.name))
         .map(|(call, _)| call.arguments.join(", "))
         .collect();
-    let writer = ["t, 2, x, 1, y, 3", "t, 3, x, 2, y, 1", "t, 1, x, 3, y, 2"];
-    let writer = writer.map(|columns| format!("{columns}, output, 40"));
-    assert_eq!(unseen, [writer.clone(), writer].concat());
+    let three = other_lengths(&["t", "x", "y"]);
+    let four = other_lengths(&["t", "x", "y", "silence"]);
+    assert_eq!(unseen, [three.clone(), three, four].concat());
     println!(
         "order: {} exchanges, {} seen",
         calls.len(),

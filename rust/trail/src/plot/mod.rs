@@ -36,7 +36,8 @@ usage: trail plot FILE [--original FILE] [--box X0 X1 Y0 Y1] [--window S E]
                   [--tolerance E] [--force] -o OUT.svg
 
 Draws FILE's trail on the plane and, below, x and y against time, with its
-kept fixes marked. The picture suits light and dark backgrounds.
+kept fixes marked. A silence is left open, with a ring at both its ends. The
+picture suits light and dark backgrounds.
 
   --original FILE  draw this trail under it, which is in the same unit
   --tolerance E    draw a band of E, in the trail's unit, around it; if not
@@ -58,7 +59,7 @@ fn first_in(
     area: Option<Area>,
     window: Option<Window>,
 ) -> Result<Option<Crossing>, Refusal> {
-    let most = trail.unit.limits().place;
+    let most = trail.unit().limits().place;
     let hall = Area {
         left: -most,
         right: most,
@@ -86,7 +87,7 @@ fn title(name: &OsStr) -> String {
 /// The tolerance whose band is drawn.
 fn band(arguments: &Arguments, trail: &Trail) -> Result<Option<u16>, Failure> {
     let asked: Option<u16> = arguments.number("--tolerance")?;
-    if asked.is_some_and(|e| e > trail.unit.limits().tolerance) {
+    if asked.is_some_and(|e| e > trail.unit().limits().tolerance) {
         return Err(trail.refused(Refusal::HighTolerance));
     }
     Ok(asked.or(trail.mark))
@@ -118,7 +119,7 @@ fn run(arguments: &Arguments) -> Result<Status, Failure> {
     let to = output_of(arguments, &drawn)?;
     let trail = Trail::read(name)?;
     let original = other.map(Trail::read).transpose()?;
-    let differs = |original: &Trail| original.unit != trail.unit;
+    let differs = |original: &Trail| original.unit() != trail.unit();
     if original.as_ref().is_some_and(differs) {
         return Err(arguments.wrong("the trail and the original are in different units"));
     }
@@ -129,7 +130,7 @@ fn run(arguments: &Arguments) -> Result<Status, Failure> {
     let picture = Picture {
         start: starts.map(Trail::first).min().unwrap_or(0),
         title: title(name),
-        unit: trail.unit,
+        unit: trail.unit(),
         trail: trail.fixes,
         original: original.map(|original| original.fixes),
         tolerance,

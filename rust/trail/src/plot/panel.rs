@@ -1,10 +1,8 @@
 //! A panel of the picture: two axes with a grid, and what is drawn between them.
 
-use trails::{Area, Unit};
+use trails::{AnyFix, Area, Unit};
 
-use crate::trail::Fix;
-
-use super::scale::{Axis, Stretch};
+use super::scale::{Axis, Interval};
 use super::svg::{Anchor, Spot, Svg};
 
 #[derive(Clone, Copy)]
@@ -26,13 +24,13 @@ impl Panel {
     /// Lines and numbers at round values, so many at most, and the frame.
     pub fn grid(&self, svg: &mut Svg, columns: usize, rows: usize) {
         let ((left, top), (right, bottom)) = self.corners();
-        for tick in self.across.stretch.ticks(columns) {
+        for tick in self.across.interval.ticks(columns) {
             let x = self.across.at(tick as f64);
             let below = (x, bottom + 16.0);
             svg.line("grid", (x, top), (x, bottom));
             svg.text("soft", below, Anchor::Middle, &tick.to_string());
         }
-        for tick in self.up.stretch.ticks(rows) {
+        for tick in self.up.interval.ticks(rows) {
             let y = self.up.at(tick as f64);
             let beside = (left - 6.0, y + 4.0);
             svg.line("grid", (left, y), (right, y));
@@ -46,7 +44,7 @@ impl Panel {
         let one = self.across.room(1.0).min(self.up.room(1.0));
         for axis in [&mut self.across, &mut self.up] {
             let shown = (axis.to - axis.from).abs() / one;
-            axis.stretch = axis.stretch.at_least(shown);
+            axis.interval = axis.interval.at_least(shown);
         }
         self
     }
@@ -55,7 +53,7 @@ impl Panel {
 /// One of the two coordinates: its name, a fix's, and the box's edges.
 pub struct Side {
     pub name: &'static str,
-    pub of: fn(&Fix) -> f64,
+    pub of: fn(&AnyFix) -> f64,
     pub edges: fn(&Area) -> (f64, f64),
 }
 
@@ -74,17 +72,17 @@ pub const Y: Side = Side {
 impl Side {
     /// What an axis of this side shows: all fixes, the box, and the band unless it is wider than all of that; and a
     /// decimetre at least.
-    pub fn stretch<'a>(
+    pub fn interval<'a>(
         &self,
         unit: Unit,
-        fixes: impl Iterator<Item = &'a Fix>,
+        fixes: impl Iterator<Item = &'a AnyFix>,
         area: Option<Area>,
         tolerance: Option<u16>,
-    ) -> Stretch {
+    ) -> Interval {
         let edges = area.iter().map(self.edges);
         let edges = edges.flat_map(|(low, high)| [low, high]);
         let least = 10.0 * f64::from(unit.limits().per_centimetre);
-        let all = Stretch::of(fixes.map(self.of).chain(edges)).at_least(least);
+        let all = Interval::of(fixes.map(self.of).chain(edges)).at_least(least);
         let band = f64::from(tolerance.unwrap_or(0)).min(all.length());
         all.wider(band + all.length() * 0.05)
     }

@@ -1,12 +1,12 @@
 //! The picture of a trail: the plane, and below it x and y against time.
 
-use trails::{Area, Crossing, Unit, Window};
+use trails::{AnyFix, Area, Crossing, Unit, Window};
 
-use crate::trail::Fix;
+use crate::trail::stretches;
 use crate::words;
 
 use super::panel::{Panel, Side, X, Y};
-use super::scale::{Axis, Stretch};
+use super::scale::{Axis, Interval};
 use super::svg::{Anchor, Spot, Svg};
 
 /// What is drawn.
@@ -14,8 +14,8 @@ pub struct Picture {
     pub title: String,
     /// the unit of all places, of the tolerance and of the box
     pub unit: Unit,
-    pub trail: Vec<Fix>,
-    pub original: Option<Vec<Fix>>,
+    pub trail: Vec<AnyFix>,
+    pub original: Option<Vec<AnyFix>>,
     pub tolerance: Option<u16>,
     pub area: Option<Area>,
     pub window: Option<Window>,
@@ -35,8 +35,17 @@ const PLANE: (f64, f64) = (96.0, 556.0);
 const X_OVER_TIME: (f64, f64) = (622.0, 782.0);
 const Y_OVER_TIME: (f64, f64) = (824.0, 984.0);
 
-fn panel(across: Stretch, up: Stretch, (top, bottom): (f64, f64)) -> Panel {
-    let axis = |stretch, from, to| Axis { stretch, from, to };
+/// How much wider than its fix the ring at an end of a silence is: around a fix of few it is seen around what marks the
+/// first time in a box, and of many it doesn't cover the next.
+const RING: f64 = 3.8;
+
+/// How much room an entry of the legend takes: a letter of this size is about 6.5 wide.
+fn room(words: &str) -> f64 {
+    46.0 + 6.5 * words.chars().count() as f64
+}
+
+fn panel(across: Interval, up: Interval, (top, bottom): (f64, f64)) -> Panel {
+    let axis = |interval, from, to| Axis { interval, from, to };
     Panel {
         across: axis(across, LEFT, RIGHT),
         up: axis(up, bottom, top),
@@ -57,8 +66,18 @@ impl Picture {
         svg.finish()
     }
 
-    fn all(&self) -> impl Iterator<Item = &Fix> {
+    fn all(&self) -> impl Iterator<Item = &AnyFix> {
         self.trail.iter().chain(self.original.iter().flatten())
+    }
+
+    /// Both ends of every silence, of the trail and of the original. What they share is there once.
+    fn ends(&self) -> Vec<&AnyFix> {
+        let both = [Some(&self.trail), self.original.as_ref()];
+        let legs = both.into_iter().flatten().flat_map(|of| of.windows(2));
+        let mut ends: Vec<&AnyFix> = legs.filter(|leg| leg[0].silence).flatten().collect();
+        ends.sort_by_key(|fix| (fix.t, fix.x, fix.y));
+        ends.dedup_by_key(|fix| (fix.t, fix.x, fix.y));
+        ends
     }
 
     fn time(&self, second: u32) -> f64 {
@@ -83,10 +102,12 @@ impl Picture {
             .tolerance
             .map(|e| format!("within {} of the trail", words::length(e, self.unit)));
         let first = self.first_time();
+        let silence = (!self.ends().is_empty()).then(|| "end of a silence".into());
         [
             ("original", original),
             ("trail", Some("trail".into())),
             ("fix", Some("kept fix".into())),
+            ("silence", silence),
             ("within", tolerance),
             ("box", self.area.map(|_| "box".into())),
             ("window", self.window.map(|_| "window".into())),
@@ -100,18 +121,25 @@ impl Picture {
         .collect()
     }
 
+    /// In one row, or in two closer ones if one hasn't the room.
     fn draw_legend(&self, svg: &mut Svg) {
-        let (mut x, y) = (LEFT, 78.0);
-        for (class, words) in self.meanings() {
+        let meanings = self.meanings();
+        let length: f64 = meanings.iter().map(|(_, words)| room(words)).sum();
+        let first_row = if LEFT + length > WIDTH { 71.0 } else { 78.0 };
+        let (mut x, mut y) = (LEFT, first_row);
+        for (class, words) in meanings {
+            if x + room(&words) > WIDTH {
+                (x, y) = (LEFT, y + 17.0);
+            }
             let ends = [(x, y - 4.0), (x + 22.0, y - 4.0)];
             match class {
                 "trail" | "original" => svg.path(class, ends.into_iter()),
                 "fix" | "first" => svg.circle(class, (x + 14.0, y - 4.0), 4.0),
+                "silence" => svg.circle(class, (x + 14.0, y - 4.0), 4.0 + RING),
                 _ => svg.rectangle(class, (x, y - 11.0), (x + 22.0, y + 2.0)),
             }
             svg.text("words", (x + 28.0, y), Anchor::Start, &words);
-            // a letter of this size is about 6.5 wide
-            x += 46.0 + 6.5 * words.chars().count() as f64;
+            x += room(&words);
         }
     }
 
@@ -143,8 +171,8 @@ impl Picture {
         }
     }
 
-    fn stretch(&self, side: &Side) -> Stretch {
-        side.stretch(self.unit, self.all(), self.area, self.tolerance)
+    fn interval(&self, side: &Side) -> Interval {
+        side.interval(self.unit, self.all(), self.area, self.tolerance)
     }
 
     /// What an axis of places is named.
@@ -153,16 +181,18 @@ impl Picture {
     }
 
     fn draw_plane(&self, svg: &mut Svg) {
-        let panel = panel(self.stretch(&X), self.stretch(&Y), PLANE).with_one_scale();
+        let panel = panel(self.interval(&X), self.interval(&Y), PLANE).with_one_scale();
         panel.grid(svg, 13, 9);
         let (one, other) = panel.corners();
         svg.inside("plane", one, other, |svg| {
-            let spot = |fix: &Fix| panel.at((X.of)(fix), (Y.of)(fix));
+            let spot = |fix: &AnyFix| panel.at((X.of)(fix), (Y.of)(fix));
             if let Some(e) = self.tolerance {
                 let width = panel.across.room(2.0 * f64::from(e));
-                // the last spot twice, since a line of one spot is none
-                let spots = self.trail.iter().chain(self.trail.last());
-                svg.wide_path("band", width, spots.map(spot));
+                for stretch in stretches(&self.trail) {
+                    // the last spot twice, since a line of one spot is none
+                    let spots = stretch.iter().chain(stretch.last());
+                    svg.wide_path("band", width, spots.map(spot));
+                }
             }
             if let Some(area) = &self.area {
                 let ((left, right), (bottom, top)) = ((X.edges)(area), (Y.edges)(area));
@@ -180,21 +210,27 @@ impl Picture {
         svg.text("words", up, Anchor::End, &self.named(&Y));
     }
 
-    /// The original, the trail over it, and the trail's fixes on top.
-    fn draw_trails(&self, svg: &mut Svg, spot: impl Fn(&Fix) -> Spot + Copy) {
-        if let Some(original) = &self.original {
-            svg.path("original", original.iter().map(spot));
+    /// The original, the trail over it, each with its silences left open, and the trail's fixes and the silences' ends
+    /// on top.
+    fn draw_trails(&self, svg: &mut Svg, spot: impl Fn(&AnyFix) -> Spot + Copy) {
+        for stretch in self.original.iter().flat_map(|of| stretches(of)) {
+            svg.path("original", stretch.iter().map(spot));
         }
-        svg.path("trail", self.trail.iter().map(spot));
+        for stretch in stretches(&self.trail) {
+            svg.path("trail", stretch.iter().map(spot));
+        }
         for fix in &self.trail {
             svg.circle("fix", spot(fix), self.radius());
+        }
+        for end in self.ends() {
+            svg.circle("silence", spot(end), self.radius() + RING);
         }
     }
 
     fn draw_over_time(&self, svg: &mut Svg, side: &Side, rows: (f64, f64)) {
-        let times = Stretch::of(self.all().map(|fix| self.time(fix.t))).at_least(1.0);
+        let times = Interval::of(self.all().map(|fix| self.time(fix.t))).at_least(1.0);
         let times = times.wider(times.length() * 0.02);
-        let panel = panel(times, self.stretch(side), rows);
+        let panel = panel(times, self.interval(side), rows);
         panel.grid(svg, 13, 5);
         let (one, other) = panel.corners();
         svg.inside(&format!("{}-over-time", side.name), one, other, |svg| {
@@ -215,10 +251,12 @@ impl Picture {
         let Some(e) = self.tolerance.map(f64::from) else {
             return;
         };
-        let beside = |by: f64| move |fix: &Fix| panel.at(self.time(fix.t), (side.of)(fix) + by);
-        let above = self.trail.iter().map(beside(e));
-        let below = self.trail.iter().rev().map(beside(-e));
-        svg.area("within", above.chain(below));
+        let beside = |by: f64| move |fix: &AnyFix| panel.at(self.time(fix.t), (side.of)(fix) + by);
+        for stretch in stretches(&self.trail) {
+            let above = stretch.iter().map(beside(e));
+            let below = stretch.iter().rev().map(beside(-e));
+            svg.area("within", above.chain(below));
+        }
     }
 
     /// The window from top to bottom, and the box's edges on this side as long as it is asked for.

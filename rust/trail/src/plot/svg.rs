@@ -28,6 +28,7 @@ text{font:12px sans-serif;fill:#1b1f24}
 .original{fill:none;stroke:#77818c;stroke-width:1.2;stroke-linejoin:round}
 .trail{fill:none;stroke:#0b5fbf;stroke-width:1.8;stroke-linejoin:round}
 .fix{fill:#ffffff;stroke:#0b5fbf;stroke-width:1.4}
+.silence{fill:none;stroke:#8250df;stroke-width:1.4}
 .box{fill:#b45309;fill-opacity:.12;stroke:#b45309;stroke-width:1.4}
 .first{fill:#c4201d;stroke:#ffffff}
 @media (prefers-color-scheme:dark){
@@ -42,6 +43,7 @@ text{fill:#e6e9ee}
 .original{stroke:#a3adb8}
 .trail{stroke:#6cb2ff}
 .fix{fill:#12161b;stroke:#6cb2ff}
+.silence{stroke:#c297ff}
 .box{fill:#f0a54a;stroke:#f0a54a}
 .first{fill:#ff7b72;stroke:#12161b}
 }

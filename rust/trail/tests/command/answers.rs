@@ -5,7 +5,8 @@ use std::fs::OpenOptions;
 use std::os::unix::ffi::OsStrExt;
 use std::process::Command;
 
-use crate::folder::{fine_h, fine_h_at_105, fine_record, record, trail_h, trail_h_at_12};
+use crate::folder::{fine_h, fine_h_at_105, fine_record, record, silent_h, silent_h_at_12};
+use crate::folder::{silent_record, trail_h, trail_h_at_12};
 use crate::folder::{Folder, AGED_H, AGE_H, PROGRAM};
 
 const NEVER: &str = "never thinned: this is the trail as the cart reported it";
@@ -51,7 +52,7 @@ fn what_follows_a_record_is_not_read() {
         left.says(&format!("{}\n", 100_042 - 49_162));
     }
     let zeros = folder.run(&["list", "/dev/zero"]);
-    zeros.fails(1, "/dev/zero: refused 2: The kind is neither 1 nor 2.");
+    zeros.fails(1, "/dev/zero: refused 2: The kind isn't 1, 2 or 3.");
 }
 
 #[test]
@@ -63,7 +64,7 @@ fn check_tells_of_every_file() {
          one: fixes 1, seconds 7 to 7, places in cm, mark never\n",
     );
     folder.run(&["check", "--json", "one"]).says(
-        "{\"file\":\"one\",\"unit\":\"cm\",\"count\":1,\"first\":7,\"last\":7,\"mark\":null}\n",
+        "{\"file\":\"one\",\"unit\":\"cm\",\"count\":1,\"silences\":null,\"first\":7,\"last\":7,\"mark\":null}\n",
     );
 }
 
@@ -94,7 +95,7 @@ fn cross_answers_the_earliest_time() {
         let box_l = ["cross", "l", "--box", "33", "40", "-5", "5", "--window"];
         folder.run(&[&box_l, &window[..], more].concat())
     };
-    let mark = format!("\"mark\":null,\"means\":\"{NEVER}\"");
+    let mark = format!("\"mark\":null,\"silences\":null,\"means\":\"{NEVER}\"");
     ask(["3600", "3610"], &["--json"]).says(&format!(
         "{{\"file\":\"l\",\"unit\":\"cm\",\"crosses\":true,\"numerator\":330,\"denominator\":100,\
          \"first\":3600,{mark}}}\n",
@@ -138,12 +139,13 @@ fn answers_of_a_thinned_trail_say_how_sure_they_are() {
     ask("cross aged --box 5 10 -1 1 --window 0 30 --json").says(&format!(
         "{{\"file\":\"aged\",\"unit\":\"cm\",\"crosses\":true,\
          \"numerator\":50,\"denominator\":20,\"first\":0,\
-         \"mark\":12,\"means\":\"{yes}\"}}\n"
+         \"mark\":12,\"silences\":null,\"means\":\"{yes}\"}}\n"
     ));
     let no = "thinned at 12 cm: if it was in the box then, it was within 12 cm of an edge";
     ask("cross aged --box 18 22 -1 1 --window 15 30").says(&format!("no; {no}\n"));
     ask("cross aged --box 18 22 -1 1 --window 15 30 --json").says(&format!(
-        "{{\"file\":\"aged\",\"unit\":\"cm\",\"crosses\":false,\"mark\":12,\"means\":\"{no}\"}}\n"
+        "{{\"file\":\"aged\",\"unit\":\"cm\",\"crosses\":false,\"mark\":12,\
+         \"silences\":null,\"means\":\"{no}\"}}\n"
     ));
     aged[6] = 0;
     folder.put("aged", aged);
@@ -274,7 +276,7 @@ fn every_name_is_a_name() {
             "{people}: fixes 1, seconds 7 to 7, places in cm, mark never\n"
         ));
         check(&["--json"]).says(&format!(
-            "{{\"file\":\"{json}\",\"unit\":\"cm\",\"count\":1,\"first\":7,\"last\":7,\"mark\":null}}\n"
+            "{{\"file\":\"{json}\",\"unit\":\"cm\",\"count\":1,\"silences\":null,\"first\":7,\"last\":7,\"mark\":null}}\n"
         ));
     }
     let ran = folder.run_with(&["check", "--", "-"], &trail_h());
@@ -328,7 +330,7 @@ fn a_trail_in_millimetres_is_asked_and_answers_in_them() {
     ));
     ask("cross h --box 51 100 -9 9 --window 0 30 --json").says(&format!(
         "{{\"file\":\"h\",\"unit\":\"mm\",\"crosses\":true,\"numerator\":510,\"denominator\":204,\
-         \"first\":0,\"mark\":null,\"means\":\"{NEVER}\"}}\n"
+         \"first\":0,\"mark\":null,\"silences\":null,\"means\":\"{NEVER}\"}}\n"
     ));
 }
 
@@ -377,4 +379,124 @@ fn a_trail_in_millimetres_is_aged_in_them() {
     let json = folder.run(&["replay", "--json", "h", "calls"]);
     let start = "{\"file\":\"h\",\"unit\":\"mm\",\"answers\":[{\"tolerance\":105,";
     assert!(json.text().starts_with(start), "{}", json.text());
+}
+
+// ---- silences
+
+fn with_silent_h() -> Folder {
+    let folder = Folder::new();
+    folder.put("h", silent_h());
+    folder.put("aged", silent_h_at_12());
+    folder
+}
+
+#[test]
+fn a_trail_with_silences_says_how_many() {
+    let folder = with_silent_h();
+    folder.put("none", silent_record(&[(7, -1, 2, 0)]));
+    folder.run(&["check", "h", "none"]).says(
+        "h: fixes 7, silences 1, seconds 0 to 320, places in cm, mark never\n\
+         none: fixes 1, silences 0, seconds 7 to 7, places in cm, mark never\n",
+    );
+    folder.run(&["check", "--json", "aged"]).says(
+        "{\"file\":\"aged\",\"unit\":\"cm\",\"count\":6,\"silences\":1,\
+         \"first\":0,\"last\":320,\"mark\":12}\n",
+    );
+    folder.run(&["list", "aged"]).says(
+        "trail 6 12\nfix 0 0 0\nfix 10 20 0\nfix 30 0 0 silence\n\
+         fix 300 400 90\nfix 310 420 75\nfix 320 440 90\nend\n",
+    );
+    folder.run(&["list", "--json", "none"]).says(
+        "{\"file\":\"none\",\"unit\":\"cm\",\"count\":1,\"mark\":null,\"fixes\":[[7,-1,2,0]]}\n",
+    );
+}
+
+#[test]
+fn no_place_is_told_inside_a_silence() {
+    let folder = with_silent_h();
+    let place = |moment: &str| folder.run(&["place", "h", moment]);
+    for (end, answer) in [
+        ("30", "place 0 0 cm\nexact 0/10000 0/10000"),
+        (
+            "300",
+            "place 400 90 cm\nexact 108000000/270000 24300000/270000",
+        ),
+    ] {
+        place(end).says(&format!("{answer}\n{NEVER}\n"));
+    }
+    let sentence = "The moment is strictly inside a silence.";
+    let refused = format!("h: refused 21: {sentence} The silence is from second 30 to 300.");
+    for inside in ["30.001", "165", "299.999"] {
+        place(inside).fails(1, &refused);
+    }
+    let json = folder.run(&["place", "--json", "h", "31"]);
+    assert_eq!((json.status, json.err), (Some(1), format!("{refused}\n")));
+    let out = String::from_utf8_lossy(&json.out);
+    assert_eq!(
+        out,
+        format!(
+            "{{\"file\":\"h\",\"refused\":21,\"sentence\":\"{sentence}\",\"from\":30,\"to\":300}}\n"
+        )
+    );
+}
+
+/// What the window has of silences is said with the answer, and an end of one counts for it.
+#[test]
+fn crossings_say_what_is_not_known() {
+    let folder = with_silent_h();
+    folder.put(
+        "two",
+        silent_record(&[(0, 0, 0, 1), (10, 9, 0, 1), (20, 0, 0, 0)]),
+    );
+    let ask = |words: &str| folder.run_line(&format!("cross {words}"));
+    let one = "of the silence in the window nothing is known";
+    // where a straight leg would have it, and at the silence's end
+    ask("h --box 100 200 20 50 --window 0 320").says(&format!("no; {NEVER}; {one}\n"));
+    ask("h --box 390 400 80 90 --window 0 320").says(&format!(
+        "yes, 300/1 seconds after the first fix, at 300.000; {NEVER}; {one}\n"
+    ));
+    // a window inside the silence, and windows beside it
+    ask("h --box -9 500 -9 500 --window 31 299").says(&format!("no; {NEVER}; {one}\n"));
+    for window in ["0 30", "300 320"] {
+        let beside = ask(&format!("h --box 100 200 20 50 --window {window}"));
+        beside.says(&format!("no; {NEVER}\n"));
+    }
+    ask("two --box 5 6 0 0 --window 0 20").says(&format!(
+        "no; {NEVER}; of the 2 silences in the window nothing is known\n"
+    ));
+    let no = "thinned at 12 cm: if it was in the box then, outside the silence, \
+        it was within 12 cm of an edge";
+    ask("aged --box 100 200 20 50 --window 0 320").says(&format!("no; {no}; {one}\n"));
+    let yes =
+        "thinned at 12 cm: at that moment the cart was in the box or within 12 cm of the box, \
+        and if it was in the box earlier in the window, outside the silence, \
+        it was within 12 cm of an edge";
+    ask("aged --box 390 400 80 90 --window 0 320 --json").says(&format!(
+        "{{\"file\":\"aged\",\"unit\":\"cm\",\"crosses\":true,\"numerator\":300,\"denominator\":1,\
+         \"first\":0,\"mark\":12,\"silences\":1,\"means\":\"{yes}; {one}\"}}\n"
+    ));
+    // beside the silence the sentence is as without it
+    let no = "thinned at 12 cm: if it was in the box then, it was within 12 cm of an edge";
+    ask("aged --box 18 22 -1 1 --window 15 30").says(&format!("no; {no}\n"));
+}
+
+#[test]
+fn a_trail_with_silences_is_aged_stretch_by_stretch() {
+    let folder = with_silent_h();
+    folder
+        .run(&["age", "--tolerance", "12", "h", "-o", "new"])
+        .says("h: kept 6 of 7 fixes, measured 4, mark 12 cm, freed 9 bytes\n");
+    assert_eq!(folder.get("new"), silent_h_at_12());
+    folder.put("calls", "tolerance 12\ndays 90\n");
+    folder.run(&["replay", "h", "calls"]).says(
+        "tolerance 12: kept 6, measured 4\ndays 90: kept 4, measured 2\nE 400 cm\n\
+         trail 4 400\nfix 0 0 0\nfix 30 0 0 silence\nfix 300 400 90\nfix 320 440 90\nend\n",
+    );
+    let json = folder.run(&["replay", "--json", "h", "calls"]);
+    let end = "\"fixes\":[[0,0,0,0],[30,0,0,1],[300,400,90,0],[320,440,90,0]]}\n";
+    assert!(json.text().ends_with(end), "{}", json.text());
+    folder.run(&["age", "--days", "90", "--json", "h"]).says(
+        "{\"file\":\"h\",\"unit\":\"cm\",\"before\":7,\"count\":4,\"mark\":400,\
+         \"measured\":3,\"freed\":27}\n",
+    );
 }

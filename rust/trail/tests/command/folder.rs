@@ -7,7 +7,7 @@ use std::path::{Path, PathBuf};
 use std::process::{Command, Output, Stdio};
 use std::sync::atomic::{AtomicUsize, Ordering};
 
-use trails_tests::plain::kinds::{Kind, CENTIMETRES, MILLIMETRES};
+use trails_tests::plain::kinds::{Kind, CENTIMETRES, MILLIMETRES, SILENCES};
 use trails_tests::plain::{Fix, Trail};
 
 pub const PROGRAM: &str = env!("CARGO_BIN_EXE_trail");
@@ -153,7 +153,10 @@ impl Folder {
     }
 }
 
-fn record_of(kind: Kind, fixes: &[(u32, i32, i32)]) -> Vec<u8> {
+fn record_of<F: Copy>(kind: Kind, fixes: &[F]) -> Vec<u8>
+where
+    Fix: From<F>,
+{
     let fixes = fixes.iter().copied().map(Fix::from).collect();
     Trail::never_thinned(kind, fixes).bytes()
 }
@@ -166,6 +169,11 @@ pub fn record(fixes: &[(u32, i32, i32)]) -> Vec<u8> {
 /// The record of some fixes in millimetres, marked never thinned.
 pub fn fine_record(fixes: &[(u32, i32, i32)]) -> Vec<u8> {
     record_of(MILLIMETRES, fixes)
+}
+
+/// The record of some fixes in centimetres with their silence bytes, marked never thinned.
+pub fn silent_record(fixes: &[(u32, i32, i32, u8)]) -> Vec<u8> {
+    record_of(SILENCES, fixes)
 }
 
 /// The same record with this mark.
@@ -196,4 +204,30 @@ pub fn fine_h() -> Vec<u8> {
 /// The same aged at 105, by hand: the third fix is 98 from where the chord of its neighbours has the cart.
 pub fn fine_h_at_105() -> Vec<u8> {
     marked(fine_record(&[(0, 0, 0), (10, 204, 0), (30, 0, 0)]), 105)
+}
+
+/// Trail h, then silent until second 300, and then on for a stretch that bends by 15.
+pub fn silent_h() -> Vec<u8> {
+    silent_record(&[
+        (0, 0, 0, 0),
+        (10, 20, 0, 0),
+        (20, 20, 0, 0),
+        (30, 0, 0, 1),
+        (300, 400, 90, 0),
+        (310, 420, 75, 0),
+        (320, 440, 90, 0),
+    ])
+}
+
+/// The same aged at 12, by hand: h as without the silence, and all of what follows.
+pub fn silent_h_at_12() -> Vec<u8> {
+    let fixes = [
+        (0, 0, 0, 0),
+        (10, 20, 0, 0),
+        (30, 0, 0, 1),
+        (300, 400, 90, 0),
+        (310, 420, 75, 0),
+        (320, 440, 90, 0),
+    ];
+    marked(silent_record(&fixes), 12)
 }

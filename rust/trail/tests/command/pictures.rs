@@ -5,7 +5,8 @@ use trails_tests::plain::kinds::{CENTIMETRES, KINDS, MILLIMETRES};
 use trails_tests::plain::{Fix, Trail};
 use trails_tests::shapes::{curve, ten_times, trail, Shape};
 
-use crate::folder::{fine_h, record, trail_h, trail_h_at_12, Folder};
+use crate::folder::{fine_h, record, silent_h, silent_h_at_12, silent_record};
+use crate::folder::{trail_h, trail_h_at_12, Folder};
 
 fn with_h() -> Folder {
     let folder = Folder::with_h();
@@ -50,7 +51,9 @@ fn a_trail_alone_has_its_fixes_in_three_panels() {
     // once in the legend too
     assert_eq!(count(&picture, "trail"), 3 + 1);
     assert_eq!(count(&picture, "fix"), 3 * 4 + 1);
-    for class in ["original", "band", "within", "box", "window", "first"] {
+    for class in [
+        "original", "band", "within", "box", "window", "first", "silence",
+    ] {
         assert_eq!(count(&picture, class), 0, "{class}");
     }
     assert!(picture.contains("prefers-color-scheme:dark"));
@@ -100,16 +103,53 @@ fn small_and_great_trails_are_drawn() {
     assert_eq!(count(&picture, "original"), 3 + 1);
 }
 
-/// The trail's spots on the plane, in tenths: the last of its lines but for the two against time.
-fn spots(picture: &str) -> Vec<(i64, i64)> {
-    let lines: Vec<&str> = picture
-        .split("<polyline class=\"trail\" points=\"")
-        .collect();
-    let plane = lines[lines.len() - 3];
-    let (points, _) = plane.split_once('"').expect("the points end");
+/// The spots of each line of this class: in the legend, then on the plane, then against time, and there a line for each
+/// stretch between silences; in tenths.
+fn lines(picture: &str, class: &str) -> Vec<Vec<(i64, i64)>> {
+    let start = format!("<polyline class=\"{class}\" points=\"");
     let tenths = |word: &str| word.replace('.', "").parse().expect("a number of tenths");
     let spot = |point: &str| point.split_once(',').map(|(x, y)| (tenths(x), tenths(y)));
-    points.split(' ').filter_map(spot).collect()
+    let line = |rest: &str| {
+        let (points, _) = rest.split_once('"').expect("the points end");
+        points.split(' ').filter_map(spot).collect()
+    };
+    picture.split(&start).skip(1).map(line).collect()
+}
+
+/// The trail's spots on the plane.
+fn spots(picture: &str) -> Vec<(i64, i64)> {
+    let all = lines(picture, "trail");
+    let stretches = (all.len() - 1) / 3;
+    all[1..=stretches].concat()
+}
+
+/// On each panel a line for each stretch, and a ring around each end of the silence; between them nothing.
+#[test]
+fn a_silence_is_left_open() {
+    let folder = Folder::new();
+    folder.put("h", silent_h());
+    folder.put("aged", silent_h_at_12());
+    let picture = draw(&folder, "aged --original h");
+    let fixes = |class| -> Vec<usize> { lines(&picture, class).iter().map(Vec::len).collect() };
+    assert_eq!(fixes("trail"), [2, 3, 3, 3, 3, 3, 3]);
+    assert_eq!(fixes("original"), [2, 4, 3, 4, 3, 4, 3]);
+    let counts = ["band", "within", "silence"].map(|class| count(&picture, class));
+    // the two trails' ends are the same, and one ring is in the legend, as one band is there
+    assert_eq!(counts, [2, 2 * 2 + 1, 3 * 2 + 1]);
+    assert!(picture.contains(">end of a silence</text>"));
+    // where a line across the silence would have been first in the box
+    let picture = draw(&folder, "h --box 100 400 20 90");
+    assert!(picture.contains(">first in the box, 300.000 s</text>"));
+    // silent all the time, and a trail of another kind under it
+    folder.put(
+        "all",
+        silent_record(&[(0, 0, 0, 1), (9, 50, 7, 1), (30, 9, 9, 0)]),
+    );
+    folder.put("plain", trail_h());
+    let picture = draw(&folder, "all --original plain --tolerance 3");
+    let fixes: Vec<usize> = lines(&picture, "trail").iter().map(Vec::len).collect();
+    assert_eq!(fixes, [2, 1, 1, 1, 1, 1, 1, 1, 1, 1]);
+    assert_eq!(count(&picture, "silence"), 3 * 3 + 1);
 }
 
 /// A place left of the aisle is drawn as far from it as its image right of it. The plane is drawn from 70 to 936 across and from
@@ -143,6 +183,31 @@ fn a_mirrored_trail_is_drawn_mirrored() {
                 (10_060, 6_520),
                 "{shape:?}"
             );
+        }
+    }
+}
+
+/// Whatever is drawn and named, the legend's words stay in the picture, which is 960 wide; a letter is about 6.5.
+#[test]
+fn the_legend_has_room() {
+    let folder = Folder::new();
+    let far = [
+        (0, -16_000, 0, 0),
+        (65_534, 16_000, 0, 1),
+        (65_535, 0, 0, 0),
+    ];
+    folder.put("t", silent_record(&far));
+    let asked = "--box 15999 16000 0 0 --window 0 65534 --tolerance 32000";
+    for words in [format!("t --original t {asked}"), "t".to_string()] {
+        let picture = draw(&folder, &words);
+        let legend = picture.split("<text class=\"words\" x=\"").skip(1);
+        for text in legend.take_while(|text| text.contains("text-anchor=\"start\"")) {
+            let (x, rest) = text.split_once('"').expect("its place");
+            let (_, rest) = rest.split_once('>').expect("its words");
+            let (words, _) = rest.split_once('<').expect("their end");
+            let x: f64 = x.parse().expect("a number");
+            let end = x + 6.5 * words.chars().count() as f64;
+            assert!(end < 960.0, "{words} ends at {end}");
         }
     }
 }

@@ -1,15 +1,15 @@
-//! Records and questions that document 01 turns away.
+//! Records and questions that the documents turn away.
 
-use trails_tests::cases::{kind_of, Draft, Random};
+use trails_tests::cases::{faults, kind_of, Draft, Random};
 use trails_tests::plain;
-use trails_tests::plain::kinds::{Kind, CENTIMETRES, KINDS, MILLIMETRES};
+use trails_tests::plain::kinds::{Kind, CENTIMETRES, KINDS, MILLIMETRES, SILENCES};
 
 use crate::folder::{fine_h, trail_h, Folder, Ran};
 
 /// The sentences of document 01, by hand.
 const SENTENCES: [&str; 14] = [
     "The lent bytes are fewer than 10.",
-    "The kind is neither 1 nor 2.",
+    "The kind isn't 1, 2 or 3.",
     "The count is 0 or above 4,096.",
     "The length field isn't 10 + 8 times the count.",
     "The lent bytes are fewer than the length field.",
@@ -22,6 +22,15 @@ const SENTENCES: [&str; 14] = [
     "The asked moment is before the first fix or after the last.",
     "The window's end is before its start, or either is outside the trail's times.",
     "A box edge is outside −16,000 to 16,000, or a low edge is above its high edge.",
+];
+
+/// Those that are about silences, or have other numbers with them.
+const WITH_SILENCES: [(usize, &str); 2] = [
+    (4, "The length field isn't 10 + 9 times the count."),
+    (
+        20,
+        "A silence byte is neither 0 nor 1, or the last fix has 1.",
+    ),
 ];
 
 /// Those that have other numbers in millimetres.
@@ -41,11 +50,13 @@ fn refused(number: usize) -> String {
 }
 
 fn refused_in(kind: Kind, number: usize) -> String {
-    let others = IN_MILLIMETRES.iter().filter(|_| kind == MILLIMETRES);
-    let mut other = others.filter(|(of, _)| *of == number);
-    let sentence = other
-        .next()
-        .map_or(SENTENCES[number - 1], |(_, other)| other);
+    let others = match kind {
+        MILLIMETRES => &IN_MILLIMETRES[..],
+        SILENCES => &WITH_SILENCES,
+        _ => &[],
+    };
+    let other = others.iter().find(|(of, _)| *of == number);
+    let sentence = other.map_or_else(|| SENTENCES[number - 1], |(_, other)| other);
     format!("refused {number}: {sentence}")
 }
 
@@ -78,11 +89,9 @@ fn every_fault_of_a_record_is_named_by_every_command() {
     let cross = "cross t --box 0 1 0 1 --window 0 0";
     let cross: Vec<&str> = cross.split(' ').collect();
     let mut random = Random::new(3);
-    for fault in 1..=9u8 {
-        for (n, kind) in [2, 40]
-            .into_iter()
-            .flat_map(|n| KINDS.map(|kind| (n, kind)))
-        {
+    for kind in KINDS {
+        let of_each = |fault| [2, 40].map(|n| (n, fault));
+        for (n, fault) in faults(kind).into_iter().flat_map(of_each) {
             let mut draft = Draft::accepted(kind, &mut random, n);
             draft.spoil(fault, &mut random);
             let bytes = draft.bytes();
@@ -209,7 +218,7 @@ fn noise_is_answered_like_the_plain_version() {
         let mut bytes = random.bytes(n);
         // half of them get past check 2, by turns as each kind
         if n % 2 == 0 && n > 6 {
-            bytes[4] = 1 + u8::from(n % 4 == 0);
+            bytes[4] = 1 + (n % 3) as u8;
             bytes[5] = 0;
         }
         folder.put("t", &bytes);

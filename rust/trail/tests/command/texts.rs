@@ -1,6 +1,6 @@
 //! `write`, and the texts that it and `replay` read.
 
-use crate::folder::{fine_record, record, trail_h, Folder};
+use crate::folder::{fine_record, record, silent_h, silent_record, trail_h, Folder};
 
 #[test]
 fn spaces_commas_comments_and_line_ends_are_taken() {
@@ -23,7 +23,7 @@ fn write_answers_programs() {
     let words = ["write", "--json", "-", "-o", "one"];
     folder
         .run_with(&words, b"7 -1 2")
-        .says("{\"file\":\"one\",\"unit\":\"cm\",\"count\":1,\"bytes\":18}\n");
+        .says("{\"file\":\"one\",\"unit\":\"cm\",\"count\":1,\"silences\":null,\"bytes\":18}\n");
     assert_eq!(folder.get("one"), record(&[(7, -1, 2)]));
 }
 
@@ -37,7 +37,7 @@ fn millimetres_are_written() {
             b"7 -160000 32768
 9 160000 -1",
         )
-        .says("{\"file\":\"one\",\"unit\":\"mm\",\"count\":2,\"bytes\":34}\n");
+        .says("{\"file\":\"one\",\"unit\":\"mm\",\"count\":2,\"silences\":null,\"bytes\":34}\n");
     let fixes = [(7, -160_000, 32_768), (9, 160_000, -1)];
     assert_eq!(folder.get("one"), fine_record(&fixes));
     // the same text isn't one in centimetres, and both ends of what millimetres can be
@@ -67,17 +67,91 @@ fn millimetres_are_written() {
     assert_eq!(folder.names(), ["one"]);
 }
 
+/// In spaces and in commas: every word that a fourth place may have.
+#[test]
+fn silences_are_written() {
+    let folder = Folder::new();
+    let spaces =
+        "0 0 0 -\n10 20 0 0\n20 20 0\n30 0 0 silence\n300 400 90\n310 420 75\n320 440 90 0\n";
+    let commas =
+        "0,0,0,\n10,20,0,-\n20,20,0\n30,0,0, 1\r\n300,400,90,0\n310,420,75\n320,440,90 ,\t\n";
+    for text in [spaces, commas] {
+        let ran = folder.run_with(&["write", "-", "-o", "h"], text.as_bytes());
+        ran.says("");
+        assert_eq!(folder.get("h"), silent_h(), "{text}");
+    }
+    // the fourth place alone makes it a trail that can have silences
+    let words = ["write", "--json", "-", "-o", "none"];
+    folder
+        .run_with(&words, b"7 -1 2\n8 0 0 -")
+        .says("{\"file\":\"none\",\"unit\":\"cm\",\"count\":2,\"silences\":0,\"bytes\":28}\n");
+    let none = silent_record(&[(7, -1, 2, 0), (8, 0, 0, 0)]);
+    assert_eq!(folder.get("none"), none);
+}
+
+/// Where more than so many seconds pass, and where a line says so.
+#[test]
+fn gaps_are_silences_if_that_is_asked() {
+    let folder = Folder::new();
+    let text = b"0 5 5\n60 5 5\n121 5 5\n122 5 5 silence\n123 5 5\n";
+    for (seconds, silent) in [
+        ("60", [0, 1, 0, 1]),
+        ("59", [1, 1, 0, 1]),
+        ("61", [0, 0, 0, 1]),
+        ("0", [1, 1, 1, 1]),
+        ("4294967295", [0, 0, 0, 1]),
+    ] {
+        let words = ["write", "--silence-after", seconds, "-", "-o", "t"];
+        folder.run_with(&words, text).says("");
+        let times = [0, 60, 121, 122].into_iter().zip(silent);
+        let mut fixes: Vec<_> = times.map(|(t, silence)| (t, 5, 5, silence)).collect();
+        fixes.push((123, 5, 5, 0));
+        assert_eq!(folder.get("t"), silent_record(&fixes), "{seconds}");
+    }
+    // a lone fix has no neighbour, and times out of order are refused as ever
+    let words = ["write", "--silence-after", "0", "-", "-o", "t"];
+    folder.run_with(&words, b"7 -1 2").says("");
+    assert_eq!(folder.get("t"), silent_record(&[(7, -1, 2, 0)]));
+    let sentence = "refused 8: Some fix's time isn't later than the time before it.";
+    let ran = folder.run_with(&words, b"7 0 0\n3 0 0\n");
+    ran.fails(1, &format!("standard input, line 2: {sentence}"));
+}
+
+#[test]
+fn no_trail_has_millimetres_and_silences() {
+    let folder = Folder::new();
+    let not_both = "no kind of trail has millimetres and silences";
+    for fourth in ["silence", "0", "-"] {
+        let text = format!("1 0 0\n2 0 0 {fourth}\n3 0 0\n");
+        let words = ["write", "--millimetres", "-", "-o", "t"];
+        let ran = folder.run_with(&words, text.as_bytes());
+        ran.fails(2, &format!("standard input, line 2: {not_both}"));
+    }
+    let what = format!("--millimetres and --silence-after: {not_both}");
+    let ran = folder.run_line("write --silence-after 5 --millimetres missing -o t");
+    ran.fails(
+        2,
+        &format!("trail: write: {what}; try 'trail write --help'"),
+    );
+    assert!(folder.names().is_empty());
+}
+
 #[test]
 fn a_bad_line_is_named_with_its_number() {
     let folder = Folder::new();
-    let fields = |n| format!("a fix is 'time x y', and here stand {n} fields");
+    let fields =
+        |n| format!("a fix is 'time x y' or 'time x y silence', and here stand {n} fields");
+    let silence = |word| format!("silence: '{word}' isn't 'silence', '1', '-' or '0'");
     let number =
         |field, word, range| format!("{field}: '{word}' isn't a whole number from {range}");
     let (times, places) = ("0 to 4,294,967,295", "-16,000 to 16,000");
-    let cases: [(&[u8], usize, String); 11] = [
+    let cases: [(&[u8], usize, String); 14] = [
         (b"1 2", 1, fields(2)),
-        (b"# fixes\n\n1 2 3 4\n", 3, fields(4)),
-        (b"1 2 3\n1,2,3,", 2, fields(4)),
+        (b"# fixes\n\n1 2 3 1 5\n", 3, fields(5)),
+        (b"1 2 3\n1,2,3,,", 2, fields(5)),
+        (b"# fixes\n\n1 2 3 4\n", 3, silence("4")),
+        (b"1,2,3,1\n2,2,3,Silence", 2, silence("Silence")),
+        (b"1,2,3,1 1", 1, silence("1 1")),
         (b"time,x,y\n1,2,3\n", 1, number("time", "time", times)),
         (b"1 2 3\n-1 2 3\n", 2, number("time", "-1", times)),
         (b"4294967296 2 3\n", 1, number("time", "4294967296", times)),
@@ -119,6 +193,10 @@ fn a_refused_list_is_not_stored_and_its_line_is_named() {
             "0 0 0\n65535 0 0\n65536 0 0\n",
             "fixes, line 3: refused 9: The last time less the first is above 65,535.",
         ),
+        (
+            "1 0 0 silence\n\n2 0 0 1 # and off\n",
+            "fixes, line 3: refused 20: A silence byte is neither 0 nor 1, or the last fix has 1.",
+        ),
     ];
     for (text, message) in cases {
         folder.put("fixes", text);
@@ -126,6 +204,11 @@ fn a_refused_list_is_not_stored_and_its_line_is_named() {
         folder.run(&["write", "fixes", "-o", "t"]).fails(1, message);
         assert_eq!(folder.get("t"), b"what was there");
     }
+}
+
+#[test]
+fn a_refused_list_is_told_to_programs_with_its_line() {
+    let folder = Folder::new();
     let ran = folder.run_with(&["write", "--json", "-", "-o", "t"], b"1 0 0\n1 0 0\n");
     assert_eq!(ran.status, Some(1));
     assert!(ran
@@ -145,6 +228,7 @@ fn the_longest_list_is_stored() {
     for (words, bytes) in [
         (&["write", "-", "-o", "t"][..], 32_778),
         (&["write", "--millimetres", "-", "-o", "t"], 49_162),
+        (&["write", "--silence-after", "9", "-", "-o", "t"], 36_874),
     ] {
         folder.run_with(words, many.as_bytes()).says("");
         assert_eq!(folder.get("t").len(), bytes);

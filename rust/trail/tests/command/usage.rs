@@ -31,7 +31,7 @@ fn help_is_printed_for_the_command_and_each_of_its_commands() {
 }
 
 /// Words that no command takes. There is a trail `h`.
-const WRONG: [&str; 42] = [
+const WRONG: [&str; 47] = [
     "",
     "lists h",
     "list",
@@ -46,6 +46,11 @@ const WRONG: [&str; 42] = [
     "write --json h -o -",
     "write --millimetres=1 h -o t",
     "age --millimetres --days 3 h",
+    "age --silence-after 3 --days 3 h",
+    "write --silence-after h -o t",
+    "write --silence-after -1 h -o t",
+    "write --silence-after 4294967296 h -o t",
+    "write --silence-after 5 --millimetres h -o t",
     "age h",
     "age --tolerance 5",
     "age --tolerance h",
@@ -180,7 +185,7 @@ fn a_reader_that_hangs_up_is_told() {
 }
 
 /// Wrong words, and what the message has before it names the help.
-const WRONG_VALUES: [(&str, &str); 17] = [
+const WRONG_VALUES: [(&str, &str); 19] = [
     (
         "cross h --window 0 1 --box 0 1 0",
         "--box takes X0 X1 Y0 Y1, and Y1 is missing",
@@ -224,6 +229,14 @@ const WRONG_VALUES: [(&str, &str); 17] = [
     (
         "age --days=x h",
         "--days, D: 'x' isn't a whole number from 0 to 65,535",
+    ),
+    (
+        "write h --silence-after -o t",
+        "--silence-after takes SECONDS",
+    ),
+    (
+        "write h --silence-after=1.5 -o t",
+        "--silence-after, SECONDS: '1.5' isn't a whole number from 0 to 4,294,967,295",
     ),
     ("age --days 7 h -o", "-o takes OUT"),
     ("plot h", "-o OUT is missing"),
@@ -279,10 +292,11 @@ fn words_that_are_not_utf8_are_no_crash() {
 }
 
 /// Words that may follow each other in any way.
-const WORDS: [&str; 28] = [
+const WORDS: [&str; 29] = [
     "--json",
     "--force",
     "--millimetres",
+    "--silence-after=3",
     "--days=3",
     "--box=0,1,0,1",
     "--tolerance",

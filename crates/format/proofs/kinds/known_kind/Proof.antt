@@ -10,13 +10,14 @@ use Rattle.format.proofs.kinds.known_kind.Tie as tie
 two-at-requires : tie.Need-two-at-requires
 two-at-requires c κs = search needs
 
-one-of : (c d : ℕ) → c ≡ d → eqb c 1 || eqb c 2 ≡ coded kinds d
-one-of c d e = rw e (go (eqb d 1) (eqb d 2))
+one-of : (c d : ℕ) → c ≡ d → eqb c 1 || (eqb c 2 || eqb c 3) ≡ coded kinds d
+one-of c d e = rw e (go (eqb d 1) (eqb d 2) (eqb d 3))
   where
-    go : (x y : Bool) → x || y ≡ x || (y || false)
-    go true y = refl
-    go false true = refl
-    go false false = refl
+    go : (x y z : Bool) → x || (y || z) ≡ x || (y || (z || false))
+    go true y z = refl
+    go false true z = refl
+    go false false true = refl
+    go false false false = refl
 
 returns : tie.Need-returns
 returns c = one-of _ _ (c .two-at .ensures .0)

@@ -21,11 +21,23 @@ mul-result-2 c = search needs
 add-result-2 : tie.Need-add-result-2
 add-result-2 c = search needs
 
+enum-told-3 : tie.Need-enum-told-3
+enum-told-3 c = search needs
+
+mul-result-3 : tie.Need-mul-result-3
+mul-result-3 c = search needs
+
+add-result-3 : tie.Need-add-result-3
+add-result-3 c = search needs
+
 returns : tie.Need-returns
 returns c = rw (c .enum-told .given .1) refl
 
 returns-2 : tie.Need-returns-2
 returns-2 c = rw (c .enum-told2 .given .1) refl
+
+returns-3 : tie.Need-returns-3
+returns-3 c = rw (c .enum-told3 .given .1) refl
 
 pub record-length-spec : {M : Type 1} → statement M
 record-length-spec =
@@ -37,5 +49,9 @@ record-length-spec =
     enum-told-2
     mul-result-2
     add-result-2
+    enum-told-3
+    mul-result-3
+    add-result-3
     returns
-    returns-2)
+    returns-2
+    returns-3)

@@ -1,20 +1,17 @@
-use mathlib.Core.Path.{_∙_}
+use mathlib.Core.Path.{refl, _∙_, ap}
 use Prim.Native.Nat.{_-_}
 use native.Mathlib.Omega.{arith}
 use lib.ListN.{length-replicate}
 use borrow.Author.Needs.{needs}
 use denote.Ref.{now}
-use Rattle.distance.specs.Fix.{Bounded, fixOf}
+use Rattle.distance.specs.Fix.{Fix}
 use Rattle.format.specs.declared.Kind.the-variants.{Trail}
-use Rattle.format.specs.Format.{fix-at}
-use Rattle.format.specs.Laws.Kinds.{is-kind}
-use Rattle.format.specs.Laws.Each.{all-at}
-use Rattle.format.specs.Laws.RoundTrip.{bounded-in-bytes}
 use Rattle.format.specs.Kinds.{trail}
+use Rattle.record.specs.Laws.Silence.{fix-heard}
 use Rattle.record.specs.Laws.Trail.{reaches}
 use Rattle.writing.specs.Writing.{in-centimetres}
 use Rattle.writing.specs.Laws.Centimetres.{no-fix}
-use Rattle.rewrite.specs.Laws.{Listed, listed-none, listed-more, listed-all}
+use Rattle.rewrite.specs.Laws.{Listed, listed-none, listed-more, listed-all, within-bytes}
 use Rattle.rewrite.proofs.in_centimetres.fixes_of.Statement.{statement}
 use Rattle.rewrite.proofs.in_centimetres.fixes_of.Tie as tie
 
@@ -32,10 +29,11 @@ fix-at-requires c κs = reaches (c .before .loop .k) (c .before .loop .inv .lent
 
 listed-requires : tie.Need-listed-requires Inv-loop μ-loop
 listed-requires c κs =
+    let s = c .before .before .before .before in
     let k = c .before .before .loop .k in
-    let f = all-at (fix-at trail (now (c .before .before .before .before .args .b))) _ k (c .before .before .before .before .pre .1) (omega arith) in
-    let g : Bounded (trail .limit) (fixOf (c .fix-at .result)) = rw (c .fix-at .ensures) f in
-    (bounded-in-bytes trail (is-kind Trail) _ (g .x-low) (g .x-high), bounded-in-bytes trail (is-kind Trail) _ (g .y-low) (g .y-high))
+    let e = c .fix-at .ensures in
+    let i = within-bytes Trail (now (s .args .b)) (s .args .n) k e (s .pre .1) (omega arith) in
+    (i .0, i .1, ap (λ (f : Fix). f .silence) e ∙ fix-heard trail (now (s .args .b)) k refl)
 
 mul-list : tie.Need-mul-list Inv-loop μ-loop
 mul-list c = search needs

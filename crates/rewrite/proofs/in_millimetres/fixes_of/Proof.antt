@@ -1,9 +1,11 @@
-use mathlib.Core.Path.{_∙_}
+use mathlib.Core.Path.{refl, _∙_, ap}
 use Prim.Native.Nat.{_-_}
 use native.Mathlib.Omega.{arith}
 use lib.ListN.{length-replicate}
 use borrow.Author.Needs.{needs}
+use Rattle.distance.specs.Fix.{Fix}
 use Rattle.format.specs.Kinds.{millimetre-trail}
+use Rattle.record.specs.Laws.Silence.{fix-heard}
 use Rattle.record.specs.Laws.Trail.{reaches}
 use Rattle.writing.specs.Writing.{in-millimetres}
 use Rattle.writing.specs.Laws.Millimetres.{no-fix}
@@ -24,8 +26,7 @@ fix-at-requires : tie.Need-fix-at-requires Inv-loop μ-loop
 fix-at-requires c κs = reaches (c .before .loop .k) (c .before .loop .inv .lent) (omega arith)
 
 listed-requires : tie.Need-listed-requires Inv-loop μ-loop
-listed-requires c κs =
-    search needs
+listed-requires c κs = ap (λ (f : Fix). f .silence) (c .fix-at .ensures) ∙ fix-heard millimetre-trail _ _ refl
 
 mul-list : tie.Need-mul-list Inv-loop μ-loop
 mul-list c = search needs

@@ -18,10 +18,10 @@ use Rattle.writing.proofs.columns.put_columns.Statement.{statement}
 use Rattle.writing.proofs.columns.put_columns.Tie as tie
 
 abbrev Inv-loop : tie.InvT-loop
-Inv-loop kind ts xs ys n out₀ k₀ out k = (k ≤ n) × (length out ≡ length out₀) × (out ≡ sets out₀ 10 (all-bytes (layout kind) (each (column-fix ts xs ys) 0 k)))
+Inv-loop kind ts xs ys silences n out₀ k₀ out k = (k ≤ n) × (length out ≡ length out₀) × (out ≡ sets out₀ 10 (all-bytes (layout kind) (each (column-fix (layout kind) ts xs ys silences) 0 k)))
 
 abbrev μ-loop : tie.MeasureT-loop
-μ-loop kind ts xs ys n out₀ k₀ out k = n - k
+μ-loop kind ts xs ys silences n out₀ k₀ out k = n - k
 
 loop-holds : tie.Need-loop-holds Inv-loop μ-loop
 loop-holds c = (omega arith, refl, stores-none _ _ _)
@@ -40,12 +40,12 @@ column-fix-requires c κs = search needs
 
 put-fix-requires : tie.Need-put-fix-requires Inv-loop μ-loop
 put-fix-requires c κs =
-    let s = c .before .before .before .before .before .before .before in
+    let s = c .before .before .before .before .before .before .before .before in
     let K = layout (s .args .kind) in
     let k = c .before .before .before .before .loop .k in
     let i = c .before .before .before .before .loop .inv in
-    let f = column-fix (now (s .args .ts)) (now (s .args .xs)) (now (s .args .ys)) in
-    let bounded : Bounded (K .limit) (fixOf (c .column-fix .result)) = rw (c .column-fix .ensures) (all-at f (s .args .n) k (s .pre .5) (omega arith)) in (
+    let f = column-fix (layout (s .args .kind)) (now (s .args .ts)) (now (s .args .xs)) (now (s .args .ys)) (now (s .args .silences)) in
+    let bounded : Bounded (K .limit) (fixOf (c .column-fix .result)) = rw (c .column-fix .ensures) (all-at f (s .args .n) k (s .pre .3) (omega arith)) in (
       omega (arith, one-more K k, longer K (suc k) (s .args .n) (omega arith), c .before .record-length .ensures),
       bounded-in-bytes K (is-kind (s .args .kind)) _ (bounded .x-low) (bounded .x-high),
       bounded-in-bytes K (is-kind (s .args .kind)) _ (bounded .y-low) (bounded .y-high),
@@ -59,7 +59,7 @@ loop-less c = search needs
 
 loop-again : tie.Need-loop-again Inv-loop μ-loop
 loop-again c =
-    let s = c .before .before .before .before .before .before .before .before .before .before in
+    let s = c .before .before .before .before .before .before .before .before .before .before .before in
     let K = layout (s .args .kind) in
     let at = c .before .before .before .before .before .before .before .loop in
     let i = at .inv in
@@ -77,7 +77,7 @@ same-length c = search needs
 returns : tie.Need-returns Inv-loop μ-loop
 returns c =
     let i = c .before .loop .inv in
-    let e : c .before .loop .k ≡ c .before .before .before .before .args .n = omega arith in
+    let e : c .before .loop .k ≡ c .before .before .before .before .before .args .n = omega arith in
     rw (← e) (i .2)
 
 pub put-columns-spec : {M : Type 1} → statement M

@@ -1,7 +1,8 @@
-use Prim.Native.Nat.{_-_, _≤_}
+use Prim.Native.Nat.{_-_, _^_, _<_, _≤_}
 use mathlib.Core.Path.{_≡_}
 use native.Mathlib.Omega.{arith}
 use borrow.Author.Needs.{needs}
+use Rattle.format.specs.Kinds.{layout}
 use Rattle.format.specs.Format.{each}
 use Rattle.writing.specs.Writing.{column-fix}
 use Rattle.record.specs.Laws.Scan.{Scanned, scanned-start, scanned-step}
@@ -9,10 +10,16 @@ use Rattle.writing.proofs.columns.scan_columns.Statement.{statement}
 use Rattle.writing.proofs.columns.scan_columns.Tie as tie
 
 abbrev Inv-loop : tie.InvT-loop
-Inv-loop limit ts xs ys n s₀ k₀ s k = (1 ≤ k) × (k ≤ n) × Scanned limit (column-fix ts xs ys 0) (each (column-fix ts xs ys) 1 (k - 1)) s
+Inv-loop kind ts xs ys silences n limit s₀ k₀ s k = (1 ≤ k) × (k ≤ n) × Scanned limit (column-fix (layout kind) ts xs ys silences 0) (each (column-fix (layout kind) ts xs ys silences) 1 (k - 1)) s
 
 abbrev μ-loop : tie.MeasureT-loop
-μ-loop limit ts xs ys n s₀ k₀ s k = n - k
+μ-loop kind ts xs ys silences n limit s₀ k₀ s k = n - k
+
+n-fits : (s : tie.Start Inv-loop μ-loop) → s .args .n < 2 ^ 64
+n-fits s = search needs
+
+limit-of-requires : tie.Need-limit-of-requires Inv-loop μ-loop
+limit-of-requires c κs = search needs
 
 column-fix-requires : tie.Need-column-fix-requires Inv-loop μ-loop
 column-fix-requires c κs = search needs
@@ -30,7 +37,7 @@ scan-next-requires : tie.Need-scan-next-requires Inv-loop μ-loop
 scan-next-requires c κs = search needs
 
 add-k : tie.Need-add-k Inv-loop μ-loop
-add-k c = search needs
+add-k c = let h = n-fits (c .before .before .before .before .before .before .before .before .before) in search needs
 
 loop-less : tie.Need-loop-less Inv-loop μ-loop
 loop-less c = search needs
@@ -43,8 +50,8 @@ loop-again c =
 returns : tie.Need-returns Inv-loop μ-loop
 returns c =
     let i = c .before .loop .inv in
-    let e : c .before .loop .k ≡ c .before .before .before .before .before .args .n = omega arith in
-    rw (← e) (i .2)
+    let e : c .before .loop .k ≡ c .before .before .before .before .before .before .before .args .n = omega arith in
+    rw (e, c .before .before .before .before .limit-of .ensures) at (i .2)
 
 pub scan-columns-spec : {M : Type 1} → statement M
 scan-columns-spec =
@@ -52,6 +59,7 @@ scan-columns-spec =
     (tie.spec
     Inv-loop
     μ-loop
+    limit-of-requires
     column-fix-requires
     scan-first-requires
     loop-holds
