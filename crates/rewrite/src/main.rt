@@ -67,8 +67,8 @@ fn main() {
     let w = rewrite(&mut bytes, &mut out);
     match w {
         Written::Refused(k) => {
-            table::refused(k);
-            table::word(b"\n");
+            printing::refused(k);
+            printing::word(b"\n");
         },
         Written::Length(n) => {
             let length = n as usize;

@@ -76,10 +76,10 @@ fn box_from(left: i32, right: i32) -> Edges {
 
 // The letter and the trail, which is read from its record.
 fn begin(letter: &[u8], b: &[u8]) {
-    table::word(letter);
-    table::word(b" | ");
-    table::trail(b);
-    table::word(b", ");
+    printing::word(letter);
+    printing::word(b" | ");
+    printing::trail(b);
+    printing::word(b", ");
 }
 
 // Agings one after the other, each on the buffer as the one before left it: the count of the last, or the first refusal.
@@ -106,23 +106,23 @@ fn age_all(b: &mut [u8], es: &[u16]) -> Aged
 fn aged(letter: &[u8], original: [u8; 64], es: &[u16]) {
     let mut left = original;
     begin(letter, &original);
-    table::tolerances(es);
-    table::word(b" | ");
+    printing::tolerances(es);
+    printing::word(b" | ");
     let a = age_all(&mut left, es);
     match a {
-        Aged::Refused(k) => table::refused(k),
-        Aged::Count(c) => table::kept(&original, &left, c),
+        Aged::Refused(k) => printing::refused(k),
+        Aged::Count(c) => printing::kept(&original, &left, c),
     }
-    table::word(b"\n");
+    printing::word(b"\n");
 }
 
 fn placed(letter: &[u8], b: [u8; 64], second: u32, thousandths: u16) {
     begin(letter, &b);
-    table::word(b"moment ");
-    table::moment(second, thousandths);
-    table::word(b" | ");
-    table::placed(moment::place(&b, Seconds(second), thousandths));
-    table::word(b"\n");
+    printing::word(b"moment ");
+    printing::moment(second, thousandths);
+    printing::word(b" | ");
+    printing::placed(moment::place(&b, Seconds(second), thousandths));
+    printing::word(b"\n");
 }
 
 // Whether a trail crosses a box in a window.
@@ -132,12 +132,12 @@ fn crossed(letter: &[u8], b: [u8; 64], edges: Edges, start: u32, end: u32) {
         end: Seconds(end),
     };
     begin(letter, &b);
-    table::edges(edges);
-    table::word(b", ");
-    table::window(window);
-    table::word(b" | ");
-    table::crossed(crossing::crosses(&b, window, edges));
-    table::word(b"\n");
+    printing::edges(edges);
+    printing::word(b", ");
+    printing::window(window);
+    printing::word(b" | ");
+    printing::crossed(crossing::crosses(&b, window, edges));
+    printing::word(b"\n");
 }
 
 // Two fixes of one place, so many seconds apart: what the writer says of them, and what the reader says of their record. A record that the writer turns away
@@ -152,9 +152,9 @@ fn apart(label: &[u8], seconds: u32) {
     };
     format::put_fix(&mut bytes, Kind::Trail, 18, second);
     begin(label, &bytes);
-    table::word(b"writer and reader | ");
+    printing::word(b"writer and reader | ");
     let mut output = [0u8; 64];
-    table::written(writing::write(
+    printing::written(writing::write(
         Kind::Trail,
         &[0, seconds],
         &[0, 0],
@@ -162,20 +162,20 @@ fn apart(label: &[u8], seconds: u32) {
         b"",
         &mut output,
     ));
-    table::word(b" and ");
-    table::checked(record::check(&bytes));
-    table::word(b"\n");
+    printing::word(b" and ");
+    printing::checked(record::check(&bytes));
+    printing::word(b"\n");
 }
 
 // A lone fix so far from the middle: what the writer of millimetres says of it.
 fn placed_at(label: &[u8], x: i32) {
     let mut output = [0u8; 64];
-    table::word(label);
-    table::word(b" | (0,");
-    table::coordinate(Coordinate(x));
-    table::word(b",0), writer | ");
-    table::written(writing::write(Kind::MillimetreTrail, &[0], &[x], &[0], b"", &mut output));
-    table::word(b"\n");
+    printing::word(label);
+    printing::word(b" | (0,");
+    printing::coordinate(Coordinate(x));
+    printing::word(b",0), writer | ");
+    printing::written(writing::write(Kind::MillimetreTrail, &[0], &[x], &[0], b"", &mut output));
+    printing::word(b"\n");
 }
 
 // ---- the table; the line below it, a moment whose thousandths have three different digits, and halves on both sides of 0
@@ -238,18 +238,18 @@ fn millimetres() {
 }
 
 fn main() {
-    table::word(b"Document 01, trails worked by hand: fixes (t,x,y), positions from 0.\n");
-    table::word(
+    printing::word(b"Document 01, trails worked by hand: fixes (t,x,y), positions from 0.\n");
+    printing::word(
         b"The count is the last aging's. A told time is in lowest terms, then as it was told.\n",
     );
-    table::word(b"Places are rounded as document 02's item 1 has it, halves away from 0.\n\n");
+    printing::word(b"Places are rounded as document 02's item 1 has it, halves away from 0.\n\n");
     thinned();
     placed(b"k", trail_k(), 1, 0);
     crossed(b"l", trail_l(), box_from(33, 40), 0, 10);
-    table::word(b"\n");
+    printing::word(b"\n");
     beside();
-    table::word(b"\nDocument 02, item 8, in millimetres:\n");
+    printing::word(b"\nDocument 02, item 8, in millimetres:\n");
     millimetres();
-    table::word(b"\nDocument 02, item 5, with silences:\n");
+    printing::word(b"\nDocument 02, item 5, with silences:\n");
     silences::rows();
 }

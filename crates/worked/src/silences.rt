@@ -45,10 +45,10 @@ fn record_saying(seconds: u32, first: u8, last: u8) -> [u8; 64] {
 fn said(seconds: u32, first: u8, last: u8) {
     let bytes = record_saying(seconds, first, last);
     begin(b"silences", &bytes);
-    table::number(first as u64);
-    table::word(b" and ");
-    table::number(last as u64);
-    table::word(b", writer and reader | ");
+    printing::number(first as u64);
+    printing::word(b" and ");
+    printing::number(last as u64);
+    printing::word(b", writer and reader | ");
     let mut output = [0u8; 64];
     let w = writing::write(
         Kind::SilenceTrail,
@@ -58,10 +58,10 @@ fn said(seconds: u32, first: u8, last: u8) {
         &[first, last],
         &mut output,
     );
-    table::written(w);
-    table::word(b" and ");
-    table::checked(record::check(&bytes));
-    table::word(b"\n");
+    printing::written(w);
+    printing::word(b" and ");
+    printing::checked(record::check(&bytes));
+    printing::word(b"\n");
 }
 
 // Two straight lines with a silence between them.

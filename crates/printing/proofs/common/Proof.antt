@@ -1,9 +1,9 @@
 use native.Mathlib.Nat.{mod-lt}
 use native.Mathlib.Omega.{arith}
 use borrow.Author.Needs.{needs}
-use Rattle.table.specs.Fractions.{SameDivisors, at-first, next, at-last, at-zeros}
-use Rattle.table.proofs.common.Statement.{statement}
-use Rattle.table.proofs.common.Tie as tie
+use Rattle.printing.specs.Fractions.{SameDivisors, at-first, next, at-last, at-zeros}
+use Rattle.printing.proofs.common.Statement.{statement}
+use Rattle.printing.proofs.common.Tie as tie
 
 abbrev Inv-loop : tie.InvT-loop
 Inv-loop n d a₀ b₀ a b = SameDivisors n d a b

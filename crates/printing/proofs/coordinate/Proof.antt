@@ -1,8 +1,8 @@
 use mir.Syntax.{w32}
-use Rattle.table.specs.Signs.{widened}
+use Rattle.printing.specs.Signs.{widened}
 use borrow.Author.Needs.{needs}
-use Rattle.table.proofs.coordinate.Statement.{statement}
-use Rattle.table.proofs.coordinate.Tie as tie
+use Rattle.printing.proofs.coordinate.Statement.{statement}
+use Rattle.printing.proofs.coordinate.Tie as tie
 
 cast-whole : tie.Need-cast-whole
 cast-whole c = widened {w = w32} {z = c .before .before .args .c .0} tt (search needs)

@@ -2,8 +2,8 @@ use mathlib.Core.Logic.{⊎-elim}
 use native.Mathlib.Omega.{arith}
 use Prim.Native.Nat.{_≤_, _-_}
 use borrow.Author.Needs.{needs}
-use Rattle.table.proofs.positions.Statement.{statement}
-use Rattle.table.proofs.positions.Tie as tie
+use Rattle.printing.proofs.positions.Statement.{statement}
+use Rattle.printing.proofs.positions.Tie as tie
 
 abbrev Inv-loop : tie.InvT-loop
 Inv-loop original left n k₀ found₀ k found = (k ≤ n) × (found ≤ k)

@@ -9,7 +9,7 @@ use moment::Spot;
 use record::Checked;
 use record::Step;
 use writing::Written;
-ghost use Rattle.table.specs.Fractions.{Greatest};
+ghost use Rattle.printing.specs.Fractions.{Greatest};
 
 pub fn word(text: &[u8]) {
     io::write_all(libc::STDOUT_FILENO, text);

@@ -1,7 +1,7 @@
 use Prim.Native.Nat.{_≤_, _-_}
 use borrow.Author.Needs.{needs}
-use Rattle.table.proofs.trail.Statement.{statement}
-use Rattle.table.proofs.trail.Tie as tie
+use Rattle.printing.proofs.trail.Statement.{statement}
+use Rattle.printing.proofs.trail.Tie as tie
 
 abbrev Inv-loop : tie.InvT-loop
 Inv-loop b n k₀ k = k ≤ n

@@ -1,8 +1,8 @@
 use Prim.Native.Nat.{_≤_, _-_}
 use lib.ListN.{length}
 use borrow.Author.Needs.{needs}
-use Rattle.table.proofs.tolerances.Statement.{statement}
-use Rattle.table.proofs.tolerances.Tie as tie
+use Rattle.printing.proofs.tolerances.Statement.{statement}
+use Rattle.printing.proofs.tolerances.Tie as tie
 
 abbrev Inv-loop : tie.InvT-loop
 Inv-loop es i₀ i = i ≤ length es

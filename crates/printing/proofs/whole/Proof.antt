@@ -1,10 +1,10 @@
 use mir.Facts.{toZ-ofZ}
 use mir.Syntax.{w64}
 use mir.Val.{SFits}
-use Rattle.table.specs.Signs.{Below, FromZero, below, from}
+use Rattle.printing.specs.Signs.{Below, FromZero, below, from}
 use borrow.Author.Needs.{needs}
-use Rattle.table.proofs.whole.Statement.{statement}
-use Rattle.table.proofs.whole.Tie as tie
+use Rattle.printing.proofs.whole.Statement.{statement}
+use Rattle.printing.proofs.whole.Tie as tie
 
 fits : (s : tie.Start) → SFits w64 (s .args .z)
 fits s = search needs
