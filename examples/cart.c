@@ -1,5 +1,6 @@
-/* One cart's trail from C: written, listed, aged over some days, and asked about; the
- * same with a silence in it; and the same in millimetres.
+/* One cart's trail from C: written, listed, aged over some days, by the built-in table
+ * and by a hall's own, and asked about; the same with a silence in it; and the same in
+ * millimetres.
  *
  *   rt staticlib export
  *   cc -I include examples/cart.c target/staticlib/libexport.a -o cart && ./cart
@@ -8,7 +9,7 @@
 
 #include "trails.h"
 
-enum { FIXES = 6 };
+enum { FIXES = 6, ROWS = 2 };
 
 /* A cart that goes 200 cm along a belt, waits, and goes on across the hall. */
 static const uint32_t times[FIXES] = {1000, 1010, 1020, 1050, 1060, 1080};
@@ -21,6 +22,10 @@ static const uint8_t silences[FIXES] = {0, 0, 0, 1, 0, 0};
 /* The same cart, seen in millimetres. */
 static const int32_t fine_xs[FIXES] = {0, 1004, 1998, 2001, 1952, 1847};
 static const int32_t fine_ys[FIXES] = {0, 2, 29, 31, 1203, 3598};
+
+/* A hall's own table: two weeks as the carts reported, then 5 cm, and 50 from day 60 on. */
+static const uint16_t row_days[ROWS] = {14, 60};
+static const uint16_t row_tolerances[ROWS] = {5, 50};
 
 /* a fix has 8 bytes in centimetres, 9 with silences, and 12 in millimetres */
 static uint8_t record[10 + 12 * FIXES];
@@ -40,9 +45,32 @@ static void aged(const char *what, struct trails_answer answer) {
         printf("%s: %u fixes measured\n", what, (unsigned)answer.value);
 }
 
-/* Makes a list of agings, and prints what became of it. */
-static void run(const uint32_t *calls, size_t count) {
-    struct trails_run done = trails_run(record, sizeof record, calls, count);
+/* The hall's own table. One that is refused has no rows, so what it is handed to is
+ * refused too. */
+static struct trails_table hall(void) {
+    struct trails_loaded loaded = trails_load(row_days, ROWS, row_tolerances, ROWS);
+    if (loaded.refusal != TRAILS_ACCEPTED)
+        printf("table: refused %u\n", (unsigned)loaded.refusal);
+    return loaded.table;
+}
+
+/* Prints what the record is given on a day by the hall's own table. */
+static void given(uint16_t days) {
+    struct trails_applied a = trails_days_apply(record, sizeof record, days, hall());
+    if (a.refusal != TRAILS_ACCEPTED)
+        printf("day %u: refused %u\n", (unsigned)days, (unsigned)a.refusal);
+    else if (a.applies)
+        printf("day %u: tolerance %u\n", (unsigned)days, (unsigned)a.tolerance);
+    else
+        printf("day %u: no tolerance\n", (unsigned)days);
+}
+
+/* Makes a list of agings by two tables, and prints what became of it. */
+static void run(const uint64_t *calls, size_t count) {
+    const struct trails_table tables[] = {trails_built_in(), hall()};
+    struct trails_run done =
+        trails_run(record, sizeof record, calls, count, (const uint16_t *)tables,
+                   2 * TRAILS_TABLE_NUMBERS);
     if (done.refusal != TRAILS_ACCEPTED)
         printf("list: refused %u\n", (unsigned)done.refusal);
     else
@@ -110,7 +138,7 @@ static void with_silences(void) {
     where(1055, 0);
     packed(1000, 1080);
     packed(1051, 1059);
-    aged("90 days", trails_age_by_days(record, sizeof record, 90));
+    aged("90 days", trails_age_by_days(record, sizeof record, 90, trails_built_in()));
     list();
 }
 
@@ -123,6 +151,9 @@ static void in_millimetres(void) {
         return;
     }
     where(1015, 500);
+    /* a table is in centimetres, and what it gives is in the record's unit */
+    given(13);
+    given(60);
     aged("tolerance 50", trails_age(record, sizeof record, 50));
     /* above what centimetres may have, and still a tolerance */
     aged("tolerance 40000", trails_age(record, sizeof record, 40000));
@@ -130,7 +161,7 @@ static void in_millimetres(void) {
 }
 
 int main(void) {
-    const uint32_t calls[] = {12, 32001, 65536 + 7};
+    const uint64_t calls[] = {12, 32001, TRAILS_BY_TABLE(0, 7), TRAILS_BY_TABLE(1, 14)};
     struct trails_answer written =
         trails_write(times, FIXES, xs, FIXES, ys, FIXES, record, sizeof record);
     if (written.refusal != TRAILS_ACCEPTED) {
@@ -146,10 +177,11 @@ int main(void) {
 
     aged("tolerance 5", trails_age(record, sizeof record, 5));
     aged("tolerance 40000", trails_age(record, sizeof record, 40000));
-    aged("1 day", trails_age_by_days(record, sizeof record, 1));
+    aged("1 day", trails_age_by_days(record, sizeof record, 1, trails_built_in()));
     list();
 
-    /* tolerance 12, a refused one, and 7 days, which is tolerance 25 */
+    /* tolerance 12, a refused one, 7 days, which is tolerance 25, and 14 by the hall's
+     * own table, which is 5 */
     run(calls, sizeof calls / sizeof calls[0]);
     list();
     longest();

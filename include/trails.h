@@ -52,13 +52,34 @@
  *     outside silences, and of the inside of a silence nothing is promised.
  * A record of kind 1 or 2 has no silence.
  *
+ * TABLES. Aging by days takes its tolerance from a table, the built-in one or a
+ * hall's own. A table has 1 to 32 rows of a day and a tolerance, and a row says: from
+ * this day on, this tolerance. Days rise strictly from row to row, tolerances don't
+ * fall, and none is above 32,000. They are in centimetres, whatever records they are
+ * for. For an asked day the last row whose day isn't above it counts. It gives
+ *   - of kinds 1 and 3 the row's tolerance as it is,
+ *   - of kind 2, in millimetres, the lesser of ten times the row's and 60,000,
+ * and before the first row nothing. The built-in table is
+ *
+ *   day    tolerance    so on days     kinds 1 and 3    kind 2
+ *                       0 and 1        nothing          nothing
+ *   2      10           2 to 6         10               100
+ *   7      25           7 to 29        25               250
+ *   30     100          30 to 89       100              1,000
+ *   90     400          from 90        400              4,000
+ *
+ * trails_load makes a table of rows, and trails_built_in gives that one. A table is a
+ * struct of 65 numbers and is handed over by value, so nobody can change it meanwhile.
+ * Whoever made it, each call that takes one checks it as loading does, and looks at no
+ * row past its count.
+ *
  * REFUSALS. A refusal is one of the numbers below, and 0 is none. A call makes
  * those checks that its description names, in the order in which they stand below,
- * which isn't that of their numbers: 20 comes directly after 9, and 21 after 12.
- * Each is made over the whole record before the next, and the first that fails is
- * the answer. A refused call leaves all buffers as they were. The limits are those
- * of the record's kind, or of the kind that is written; 20 and 21 turn away
- * nothing of kinds 1 and 2.
+ * which isn't that of their numbers: 20, 22 and 23 come directly after 9, and 21 after
+ * 12. Each is made over the whole record, or the whole table, before the next, and the
+ * first that fails is the answer. A refused call leaves all buffers as they were. The
+ * limits are those of the record's kind, or of the kind that is written; 20 and 21 turn
+ * away nothing of kinds 1 and 2, and a table's limits are the same for every kind.
  */
 #ifndef TRAILS_H
 #define TRAILS_H
@@ -82,6 +103,8 @@ enum {
     TRAILS_UNORDERED = 8,        /* a fix's time isn't later than the time before */
     TRAILS_LONG_SPAN = 9,        /* more than 65,535 seconds from first to last fix */
     TRAILS_BAD_SILENCE = 20,     /* a silence byte is neither 0 nor 1, or the last fix has 1 */
+    TRAILS_BAD_ROW_COUNT = 22,   /* the table has no rows, or more than 32 */
+    TRAILS_BAD_ROWS = 23,        /* days don't rise strictly, tolerances fall, or one is above 32,000 */
     TRAILS_HIGH_TOLERANCE = 10,  /* the asked tolerance is above its limit */
     TRAILS_BAD_THOUSANDTHS = 11, /* the asked thousandths are above 999 */
     TRAILS_BAD_MOMENT = 12,      /* the moment is before the first fix or after the last */
@@ -104,6 +127,18 @@ enum {
 
 /* Room for every listing: none has more bytes. */
 #define TRAILS_TEXT 159765u
+
+/* The most rows of a table. */
+#define TRAILS_ROWS 32u
+
+/* The numbers of a table, of 16 bits each, as lists of agings are lent them: its count,
+ * and then day and tolerance of each of its 32 rows. */
+#define TRAILS_TABLE_NUMBERS 65u
+
+/* What a list of agings has for one by days: by the lent table k, counted from 0. Days are
+ * from 0 to 65,535; of another number only the low 16 bits count, here and in
+ * trails_age_by_days, so that -1 is day 65,535. */
+#define TRAILS_BY_TABLE(k, days) ((((uint64_t)(k) + 1) << 16) + (uint16_t)(days))
 
 /* What a record's head says. Where refusal isn't 0, all else is 0. */
 struct trails_head {
@@ -129,6 +164,34 @@ struct trails_step {
 struct trails_answer {
     uint32_t refusal;
     uint32_t value;
+};
+
+/* A row of a table: from this day on, this tolerance, in centimetres. */
+struct trails_row {
+    uint16_t day;
+    uint16_t tolerance;
+};
+
+/* A table: the first count of the rows. Nothing stands between its 65 numbers, so an
+ * array of tables, seen as numbers, is what a list of agings is lent. */
+struct trails_table {
+    uint16_t count;
+    struct trails_row rows[TRAILS_ROWS];
+};
+
+/* A table that was loaded. Its rows from its count on are 0; where refusal isn't 0, all
+ * else is 0. */
+struct trails_loaded {
+    uint32_t refusal;
+    struct trails_table table;
+};
+
+/* What an aging by days applies: applies is 1 and tolerance is in the record's unit, or
+ * both are 0: nothing. Where refusal isn't 0, all else is 0. */
+struct trails_applied {
+    uint32_t refusal;
+    uint32_t applies;
+    uint32_t tolerance;
 };
 
 /* What became of a list of agings. Where refusal isn't 0, nothing was done, and
@@ -251,18 +314,27 @@ size_t trails_list(const uint8_t *record, size_t lent,
  * thousands more for itself: one of 798,720 bytes was seen to suffice. */
 struct trails_answer trails_age(uint8_t *record, size_t lent, uint16_t tolerance);
 
-/* Ages the record by days. Makes checks 1 to 9 and 20. Where none fails, it does
- * what trails_age does at the tolerance of this table:
- *
- *   days        kinds 1 and 3    kind 2
- *   0 and 1     none: no byte is changed, and value is 0
- *   2 to 6      10               100
- *   7 to 29     25               250
- *   30 to 89    100              1,000
- *   from 90     400              4,000
- *
- * Where a check fails, no byte is changed. */
-struct trails_answer trails_age_by_days(uint8_t *record, size_t lent, uint16_t days);
+/* Loads a hall's own table. Row k is days[k] and tolerances[k], in centimetres; the
+ * rows are as many as the shorter of the two columns has. Makes checks 22 and 23. Where
+ * none fails, the table has just these rows. */
+struct trails_loaded trails_load(const uint16_t *days, size_t day_count,
+                                 const uint16_t *tolerances, size_t tolerance_count);
+
+/* The built-in table, whose rows TABLES above has and loading accepts. */
+struct trails_table trails_built_in(void);
+
+/* Ages the record by days. Makes checks 1 to 9, 20, 22 and 23. Where none fails, it does
+ * what trails_age does at the tolerance that the table has for these days and the
+ * record's kind, which TABLES above gives; where the table has none for them, no byte
+ * is changed, and value is 0. Where a check fails, no byte is changed. STACK: as
+ * trails_age. */
+struct trails_answer trails_age_by_days(uint8_t *record, size_t lent, uint16_t days,
+                                        struct trails_table table);
+
+/* What trails_age_by_days would apply to the record, which stays as it is. Makes the
+ * same checks: 1 to 9, 20, 22 and 23. */
+struct trails_applied trails_days_apply(const uint8_t *record, size_t lent, uint16_t days,
+                                        struct trails_table table);
 
 /* Where the cart was at a moment: a second, on the fixes' own clock, and so many
  * thousandths after it. Makes checks 1 to 9, 20, 11, 12 and 21: where the cart was
@@ -288,13 +360,18 @@ struct trails_crossing trails_crosses(const uint8_t *record, size_t lent,
                                       int32_t bottom, int32_t top);
 
 /* Makes all agings of a list, one after the other. A call below 65,536 is
- * trails_age at that tolerance, and one from there on is trails_age_by_days at
- * call % 65,536 days. Makes checks 1 to 9 and 20. Where none fails, each byte afterwards
- * is what these calls give one by one: those whose tolerance is above the kind's
- * limit are turned away and change nothing, and the calls after them are made.
+ * trails_age at that tolerance, and one from there on, as TRAILS_BY_TABLE has it, is
+ * trails_age_by_days at call % 65,536 days by the lent table call / 65,536 - 1, counted
+ * from 0: so each may have another. The tables are lent one after the other, each as its
+ * TRAILS_TABLE_NUMBERS numbers: table k is numbers 65 * k to 65 * k + 64, and
+ * table_numbers is how many numbers there are, not how many tables. One of which not all
+ * 65 are lent is a table without rows; a list without agings by days may be lent none. Makes checks 1 to 9 and 20. Where none
+ * fails, each byte afterwards is what these calls give one by one: those that are
+ * turned away, by 10, 22 or 23, change nothing, and the calls after them are made.
  * turned_away is how many they were. STACK: as trails_age. */
 struct trails_run trails_run(uint8_t *record, size_t lent,
-                             const uint32_t *calls, size_t call_count);
+                             const uint64_t *calls, size_t call_count,
+                             const uint16_t *tables, size_t table_numbers);
 
 /* Makes all agings of a list, and then asks the crossing of what is left. Makes
  * checks 1 to 9, 20, 13 and 14, before any aging: thinning keeps the first fix and
@@ -314,7 +391,8 @@ struct trails_run trails_run(uint8_t *record, size_t lent,
  *     or top.
  * Where the cart went inside a silence nobody knows, and nothing is promised of it. */
 struct trails_crossing trails_crosses_after(uint8_t *record, size_t lent,
-                                            const uint32_t *calls, size_t call_count,
+                                            const uint64_t *calls, size_t call_count,
+                                            const uint16_t *tables, size_t table_numbers,
                                             uint32_t start, uint32_t end,
                                             int32_t left, int32_t right,
                                             int32_t bottom, int32_t top);

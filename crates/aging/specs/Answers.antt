@@ -6,14 +6,15 @@ use Rattle.record.specs.Answers.{Answer, gives, turns-away}
 use Rattle.aging.specs.declared.Aged.{Aged}
 use Rattle.aging.specs.declared.Aged.the-variants.{Count, Refused}
 use Rattle.aging.specs.declared.Applied.{Applied}
-use Rattle.aging.specs.declared.Applied.the-variants.{NoTolerance, At}
+use Rattle.aging.specs.declared.Applied.the-variants.{NoTolerance, At, Refused as Turned}
 
 -- What an aging answered: the count, or the number of its refusal.
 abbrev pub counted : Aged → Answer ℕ
 counted (Count c) = gives c
 counted (Refused k) = turns-away k
 
--- The tolerance that days give, or none.
-abbrev pub applied : Applied → Option ℕ
-applied NoTolerance = none
-applied (At e) = some (e .0)
+-- The tolerance that days apply to a record, or none, or the number of the refusal.
+abbrev pub applied : Applied → Answer (Option ℕ)
+applied NoTolerance = gives none
+applied (At e) = gives (some (e .0))
+applied (Turned k) = turns-away k

@@ -1,10 +1,10 @@
--- THE AGINGS IN NUMBERS. Days and bytes, written out, and what document 01 and document 02's items 5 and 8 say of them: the definitions and the code cannot be
+-- THE AGINGS IN NUMBERS. Days and bytes, written out, and what document 01 and document 02's items 5, 6 and 8 say of them: the definitions and the code cannot be
 -- changed together without these rows. Each line is computed.
 use mathlib.Core.Path.{_≡_, refl}
 use mathlib.Core.Bool.{Bool, true, false}
 use mathlib.Core.List.{List, [], _∷_, _++_}
-use mathlib.Core.Option.{Option, some, none}
-use Prim.Native.Nat.{ℕ}
+use mathlib.Core.Option.{some}
+use Prim.Native.Nat.{ℕ, _*_, _≤_}
 use native.Mathlib.Omega.{arith}
 use lib.IntN.{pos}
 use Rattle.distance.specs.Examples.{Computes}
@@ -17,37 +17,26 @@ use Rattle.format.specs.Kinds.{Kind, trail, millimetre-trail}
 use Rattle.format.specs.Format.{kind-of, fixes, fix-from, fix-at, each, fix-to, fix-bytes, all-bytes, header-bytes, record-bytes}
 use Rattle.format.specs.Examples.{document-bytes}
 use Rattle.format.specs.Laws.RoundTrip.{all-below, computed-bytes}
-use Rattle.record.specs.Checks.{sentence, first, some-outside, some-other-silence, some-early-after, some-early, of-ends}
+use Rattle.record.specs.Checks.{Row, sentence, first, some-bad-row, some-outside, some-other-silence, some-early-after, some-early, of-ends}
 use Rattle.record.specs.Answers.{Answer, gives, turns-away}
-use Rattle.record.specs.Examples.{read-rows, on-refused, MovableRow, movable-rows}
+use Rattle.record.specs.Examples.{read-rows, on-refused, MovableRow, movable-rows, row, daily}
 use Rattle.record.specs.Moved.{moved-record}
 use Rattle.record.specs.Tenfold.{tenfold-record, Tenfold}
 use Rattle.record.specs.Laws.Tenfold.{tenfold-never, tenfold-bytes}
+use Rattle.table.specs.Table.{last-row, built-in}
+use Rattle.table.specs.Laws.Checking.{no-rows-refused}
+use Rattle.table.specs.Laws.Days.{rows-until}
 use Rattle.thinning.specs.Marks.{kept-by}
 use Rattle.thinning.specs.Thinning.{sooner, furthest, every, but-last, thin-span, thin, joined, stretches, thin-each, thinning}
-use Rattle.aging.specs.Aging.{new-mark, thinned-record, last-row, days-give, in-unit, Call, by-tolerance, by-days, left-by, answered}
-use Rattle.aging.specs.Tenfold.{TenfoldCall, at-ten-times, by-same-days, both-too-high}
+use Rattle.aging.specs.Aging.{new-mark, thinned-record, in-unit, Call, by-tolerance, by-days, left-by, answered}
+use Rattle.aging.specs.Tenfold.{TenfoldCall, at-ten-times, by-same-days, by-refused-table, both-too-high}
+use Rattle.aging.specs.Laws.Days.{age-alike}
 use Rattle.aging.specs.Laws.Moved.{AgedAlike, aged-moved}
 use Rattle.aging.specs.Laws.Tenfold.{AgedTenfold, aged-tenfold}
 
--- ---- the table: "from day 2, 10; from day 7, 25; from day 30, 100; from day 90, 400. Days 0 and 1 apply no tolerance"
-abbrev pub day-rows : List (ℕ × Option ℕ)
-day-rows =
-    (0, none)
-    ∷ (1, none)
-    ∷ (2, some 10)
-    ∷ (6, some 10)
-    ∷ (7, some 25)
-    ∷ (29, some 25)
-    ∷ (30, some 100)
-    ∷ (89, some 100)
-    ∷ (90, some 400)
-    ∷ (65535, some 400)
-    ∷ []
-
-pub days-computed : Computes days-give day-rows
-unfolding last-row
-days-computed = refl
+-- ---- a hall's own table, whose last row is the greatest that a table may have
+abbrev pub hall : List Row
+hall = row 14 5 ∷ row 365 32000 ∷ []
 
 -- ---- calls: lent bytes and a call, and then what it answers and the bytes afterwards
 abbrev pub CallRow : Type 0
@@ -63,23 +52,33 @@ marked low high = 18 ∷ 0 ∷ 0 ∷ 0 ∷ 1 ∷ 0 ∷ low ∷ high ∷ 1 ∷ 0 
 
 abbrev pub call-rows : List CallRow
 call-rows =
-    -- what the reader refuses both agings refuse, 1 to 9 and 20, and before 10
+    -- what the reader refuses both agings refuse, 1 to 9 and 20, and before 10 and 22
     on-refused (refuses (by-tolerance 0)) read-rows
-    ++ on-refused (refuses (by-days 7)) read-rows
+    ++ on-refused (refuses (by-days 7 built-in)) read-rows
     ++ on-refused (refuses (by-tolerance 32001)) read-rows
+    ++ on-refused (refuses (by-days 7 [])) read-rows
     -- "Tolerance 32,000 passes, 32,001 is 10.": the lone fix stays, and the mark is 32,000
     ++ ((document-bytes, by-tolerance 32000), (gives 0, marked 0 125))
     ∷ refuses (by-tolerance 32001) document-bytes 10
     -- by days no tolerance is asked: day 1 leaves the record, day 2 marks it 10, the last day 400, and none is turned away
-    ∷ ((document-bytes, by-days 1), (gives 0, document-bytes))
-    ∷ ((document-bytes, by-days 2), (gives 0, marked 10 0))
-    ∷ ((document-bytes, by-days 65535), (gives 0, marked 144 1))
+    ∷ ((document-bytes, by-days 1 built-in), (gives 0, document-bytes))
+    ∷ ((document-bytes, by-days 2 built-in), (gives 0, marked 10 0))
+    ∷ ((document-bytes, by-days 65535 built-in), (gives 0, marked 144 1))
+    -- a table of one's own, from its first day on
+    ∷ ((document-bytes, by-days 13 hall), (gives 0, document-bytes))
+    ∷ ((document-bytes, by-days 14 hall), (gives 0, marked 5 0))
+    ∷ ((document-bytes, by-days 65535 hall), (gives 0, marked 0 125))
+    -- 22 and 23, "directly after 9 and 20", whatever the day is
+    ∷ refuses (by-days 0 []) document-bytes 22
+    ∷ refuses (by-days 7 (daily 33)) document-bytes 22
+    ∷ refuses (by-days 0 (row 7 25 ∷ row 7 100 ∷ [])) document-bytes 23
+    ∷ refuses (by-days 7 (row 7 32001 ∷ [])) document-bytes 23
     -- a mark of 100 stays the greater of 100 and 25
-    ∷ ((marked 100 0, by-days 7), (gives 0, marked 100 0))
+    ∷ ((marked 100 0, by-days 7 built-in), (gives 0, marked 100 0))
     ∷ []
 
 pub calls-computed : Computes (λ (p : List ℕ × Call). (answered (p .0) (p .1), left-by (p .0) (p .1))) call-rows
-unfolding thinned-record new-mark last-row thinning thin-each stretches joined thin thin-span furthest sooner every but-last last-of deviation allowance first sentence some-outside some-other-silence some-early-after some-early of-ends kind-of fix-from fix-at each number-at signed unsigned bytes-of fix-to fix-bytes all-bytes header-bytes record-bytes
+unfolding thinned-record new-mark last-row some-bad-row thinning thin-each stretches joined thin thin-span furthest sooner every but-last last-of deviation allowance first sentence some-outside some-other-silence some-early-after some-early of-ends kind-of fix-from fix-at each number-at signed unsigned bytes-of fix-to fix-bytes all-bytes header-bytes record-bytes
 calls-computed = refl
 
 -- ---- kind 2, by its own limits, in millimetres: one fix, under a mark of these two bytes
@@ -92,13 +91,17 @@ millimetre-call-rows =
     ((millimetre-marked 255 255, by-tolerance 60000), (gives 0, millimetre-marked 96 234))
     ∷ refuses (by-tolerance 60001) (millimetre-marked 255 255) 10
     ∷ ((millimetre-marked 255 255, by-tolerance 32001), (gives 0, millimetre-marked 1 125))
-    ∷ ((millimetre-marked 255 255, by-days 1), (gives 0, millimetre-marked 255 255))
-    ∷ ((millimetre-marked 255 255, by-days 2), (gives 0, millimetre-marked 100 0))
-    ∷ ((millimetre-marked 255 255, by-days 65535), (gives 0, millimetre-marked 160 15))
+    ∷ ((millimetre-marked 255 255, by-days 1 built-in), (gives 0, millimetre-marked 255 255))
+    ∷ ((millimetre-marked 255 255, by-days 2 built-in), (gives 0, millimetre-marked 100 0))
+    ∷ ((millimetre-marked 255 255, by-days 65535 built-in), (gives 0, millimetre-marked 160 15))
+    -- "the lesser of 60,000 and ten times the row": 50 of a row of 5, and 60,000 of one of 32,000
+    ∷ ((millimetre-marked 255 255, by-days 14 hall), (gives 0, millimetre-marked 50 0))
+    ∷ ((millimetre-marked 255 255, by-days 365 hall), (gives 0, millimetre-marked 96 234))
+    ∷ refuses (by-days 365 (row 0 32001 ∷ [])) (millimetre-marked 255 255) 23
     ∷ []
 
 pub millimetre-calls-computed : Computes (λ (p : List ℕ × Call). (answered (p .0) (p .1), left-by (p .0) (p .1))) millimetre-call-rows
-unfolding thinned-record new-mark last-row thinning thin-each stretches joined thin thin-span furthest sooner every but-last last-of deviation allowance first sentence some-outside some-other-silence some-early-after some-early of-ends kind-of fix-from fix-at each number-at signed unsigned bytes-of fix-to fix-bytes all-bytes header-bytes record-bytes
+unfolding thinned-record new-mark last-row some-bad-row thinning thin-each stretches joined thin thin-span furthest sooner every but-last last-of deviation allowance first sentence some-outside some-other-silence some-early-after some-early of-ends kind-of fix-from fix-at each number-at signed unsigned bytes-of fix-to fix-bytes all-bytes header-bytes record-bytes
 millimetre-calls-computed = refl
 
 -- ---- kind 3: six fixes, at x 0, 5, 10 with silence after it, 100, 110 and 120. "each stretch between silences is thinned by itself, the counts added": of either
@@ -139,22 +142,27 @@ abbrev pub silent-call-rows : List CallRow
 silent-call-rows =
     ((parted-trail, by-tolerance 0), (gives 2, parted-aged 0 0))
     ∷ ((parted-trail, by-tolerance 1000), (gives 2, parted-aged 232 3))
-    ∷ ((parted-trail, by-days 7), (gives 2, parted-aged 25 0))
+    ∷ ((parted-trail, by-days 7 built-in), (gives 2, parted-aged 25 0))
     ∷ ((all-silent 255 255, by-tolerance 32000), (gives 0, all-silent 0 125))
     ∷ refuses (by-tolerance 32001) (all-silent 255 255) 10
     ∷ []
 
 pub silent-calls-computed : Computes (λ (p : List ℕ × Call). (answered (p .0) (p .1), left-by (p .0) (p .1))) silent-call-rows
-unfolding thinned-record new-mark last-row thinning thin-each stretches joined thin thin-span furthest sooner every but-last last-of deviation allowance first sentence some-outside some-other-silence some-early-after some-early of-ends kind-of fix-from fix-at each number-at signed unsigned bytes-of fix-to fix-bytes all-bytes header-bytes record-bytes
+unfolding thinned-record new-mark last-row some-bad-row thinning thin-each stretches joined thin thin-span furthest sooner every but-last last-of deviation allowance first sentence some-outside some-other-silence some-early-after some-early of-ends kind-of fix-from fix-at each number-at signed unsigned bytes-of fix-to fix-bytes all-bytes header-bytes record-bytes
 silent-calls-computed = refl
 
--- "the lesser of 60,000 and ten times the row": the built-in rows are below it, and a row of 6,001 centimetres is not
+-- .. and where the two meet: a row of 6,001 centimetres is above it
 pub units-computed : Computes (λ (p : Kind × ℕ). in-unit (p .0) (some (p .1))) (((trail, 400), some 400) ∷ ((millimetre-trail, 400), some 4000) ∷ ((millimetre-trail, 6000), some 60000) ∷ ((millimetre-trail, 6001), some 60000) ∷ ((millimetre-trail, 32000), some 60000) ∷ [])
 units-computed = refl
 
+-- ---- two tables that agree up to day 6 age alike up to it: the built-in one, and one whose second row comes a day later
+pub alike-until-6 : (b : List ℕ) (d : ℕ) → d ≤ 6 → (answered b (by-days d built-in) ≡ answered b (by-days d (row 2 10 ∷ row 8 25 ∷ []))) × (left-by b (by-days d built-in) ≡ left-by b (by-days d (row 2 10 ∷ row 8 25 ∷ [])))
+unfolding first sentence some-bad-row rows-until
+alike-until-6 b d h = age-alike b 6 d built-in (row 2 10 ∷ row 8 25 ∷ []) refl refl refl h
+
 -- ---- the law of a moved clock, of bytes that are accepted and of refused ones
-pub movable-aged : All (λ (m : MovableRow). AgedAlike (m .by) (m .buffer) (moved-record (m .by) (m .buffer)) (by-days 7)) movable-rows
-movable-aged = all-always (λ (m : MovableRow). aged-moved (m .by) (m .buffer) (m .bytes) (m .movable) (by-days 7)) movable-rows
+pub movable-aged : All (λ (m : MovableRow). AgedAlike (m .by) (m .buffer) (moved-record (m .by) (m .buffer)) (by-days 7 built-in)) movable-rows
+movable-aged = all-always (λ (m : MovableRow). aged-moved (m .by) (m .buffer) (m .bytes) (m .movable) (by-days 7 built-in)) movable-rows
 
 -- The trail of document 01's row b, a straight line of three fixes, at 0, 10 and 20 seconds.
 abbrev pub straight : List ℕ
@@ -194,12 +202,16 @@ straight-aged : {q r : Call} → TenfoldCall q r → AgedTenfold straight (tenfo
 unfolding all-below
 straight-aged = aged-tenfold straight (tenfold-record straight) (computed-bytes straight refl) (tenfold-bytes straight) straight-tenfold
 
--- .. at the least tolerance and at the greatest that both units have, by days, and at the least that both turn away
+pub low-rows : All (λ (r : Row). 10 * r .row-tolerance ≤ millimetre-trail .top) built-in
+low-rows = all-more {m = row 2 10} (omega arith) (all-more {m = row 7 25} (omega arith) (all-more {m = row 30 100} (omega arith) (all-more {m = row 90 400} (omega arith) all-none)))
+
+-- .. at the least tolerance and at the greatest that both units have, by days, by a table that both turn away, and at the least tolerance that both do
 pub straight-in-millimetres : AgedTenfold straight (tenfold-record straight) (by-tolerance 0) (by-tolerance 0)
     × AgedTenfold straight (tenfold-record straight) (by-tolerance 6000) (by-tolerance 60000)
-    × AgedTenfold straight (tenfold-record straight) (by-days 7) (by-days 7)
+    × AgedTenfold straight (tenfold-record straight) (by-days 7 built-in) (by-days 7 built-in)
+    × AgedTenfold straight (tenfold-record straight) (by-days 7 []) (by-days 7 [])
     × AgedTenfold straight (tenfold-record straight) (by-tolerance 32001) (by-tolerance 60001)
-straight-in-millimetres = (straight-aged (at-ten-times {e = 0} (omega arith)), straight-aged (at-ten-times {e = 6000} (omega arith)), straight-aged by-same-days, straight-aged (both-too-high (omega arith) (omega arith)))
+straight-in-millimetres = (straight-aged (at-ten-times {e = 0} (omega arith)), straight-aged (at-ten-times {e = 6000} (omega arith)), straight-aged (by-same-days low-rows), straight-aged (by-refused-table (no-rows-refused [] refl)), straight-aged (both-too-high (omega arith) (omega arith)))
 
 -- the same positions
 pub straight-kept-in-millimetres : fixes (left-by (tenfold-record straight) (by-tolerance 0)) ≡ kept-by ends-marked 0 (fixes (tenfold-record straight))

@@ -2,17 +2,22 @@
 use distance::Tolerance;
 use format::Kind;
 use record::Checked;
+use table::Days;
+use table::OnDay;
+use table::Table;
 ghost use mathlib.Core.Path.{_≡_};
 ghost use Prim.Native.Nat.{_<_, _≤_};
 ghost use lib.ListN.{length};
 ghost use Rattle.format.specs.Kinds.{layout};
 ghost use Rattle.format.specs.Format.{record-length, fixes};
 ghost use Rattle.record.specs.Checks.{IsAccepted};
-ghost use Rattle.aging.specs.Aging.{new-mark, thinned-record, age-refusal, age-answer, aged, days-give, in-unit, days-answer, aged-by-days, count-at, record-at};
+ghost use Rattle.table.specs.Answers.{tableOf, on-day};
+ghost use Rattle.aging.specs.Aging.{new-mark, thinned-record, age-refusal, age-answer, aged, apply-answer, days-answer, aged-by-days};
 ghost use Rattle.aging.specs.Answers.{counted, applied};
 ghost use Rattle.record.specs.Answers.{refused};
 ghost use Rattle.thinning.specs.Thinning.{thinning};
 ghost use Rattle.aging.specs.Laws.Pack.{Packed};
+ghost use Rattle.aging.specs.Laws.Days.{answer-in-unit};
 
 // Closes up the marked fixes of the first n, and says how many they are. Each is read before anything is stored over it.
 fn pack(b: &mut [u8], kind: Kind, keep: &[bool], n: usize) -> usize
@@ -92,42 +97,21 @@ pub fn age(b: &mut [u8], e: Tolerance) -> Aged
     }
 }
 
-// A trail's age.
-pub struct Days(pub u16);
-
-// The tolerance that an age gives, if it gives one.
+// The tolerance that days apply to a record, in its unit, if they apply one; or the refusal.
 pub enum Applied {
     NoTolerance,
     At(Tolerance),
+    Refused(u8),
 }
 
-// The built-in table, in centimetres.
-fn tolerance_for(days: Days) -> Applied
-    ensures { λ r. ⌜ applied r ≡ days-give (days .0) ⌝ }
-{
-    let d = days.0;
-    if 90 <= d {
-        return Applied::At(Tolerance(400));
-    }
-    if 30 <= d {
-        return Applied::At(Tolerance(100));
-    }
-    if 7 <= d {
-        return Applied::At(Tolerance(25));
-    }
-    if 2 <= d {
-        return Applied::At(Tolerance(10));
-    }
-    Applied::NoTolerance
-}
-
-// A tolerance of the table in a kind's unit, and no higher than the kind's tolerances go.
-fn in_unit(kind: Kind, t: Applied) -> Applied
-    ensures { λ r. ⌜ applied r ≡ in-unit (layout kind) (applied t) ⌝ }
+// A tolerance of a table in a kind's unit, and no higher than the kind's tolerances go.
+fn in_unit(kind: Kind, t: OnDay) -> Applied
+    ensures { λ r. ⌜ applied r ≡ answer-in-unit (layout kind) (on-day t) ⌝ }
 {
     match t {
-        Applied::NoTolerance => Applied::NoTolerance,
-        Applied::At(e) => {
+        OnDay::Refused(k) => Applied::Refused(k),
+        OnDay::NoTolerance => Applied::NoTolerance,
+        OnDay::At(e) => {
             let wide = format::per_centimetre(kind) * (e.0 as u32);
             let top = format::top_of(kind);
             if wide < top {
@@ -139,27 +123,25 @@ fn in_unit(kind: Kind, t: Applied) -> Applied
     }
 }
 
-// Thins an accepted record at the tolerance that applies, or leaves it.
-fn thin_if(b: &mut [u8], t: Applied) -> u32
-    requires { ⌜ IsAccepted (now b) ⌝ }
-    ensures { λ r. ⌜ (r ≡ count-at (applied t) (now (b .entry))) × (now (b .exit) ≡ record-at (applied t) (now (b .entry))) ⌝ }
-{
-    match t {
-        Applied::NoTolerance => 0,
-        Applied::At(e) => thin(b, e),
-    }
-}
-
-// Ages the record at the start of the buffer by days.
-pub fn age_by_days(b: &mut [u8], days: Days) -> Aged
-    ensures { λ r. ⌜ (counted r ≡ days-answer (now (b .entry)) (days .0)) × (now (b .exit) ≡ aged-by-days (now (b .entry)) (days .0)) ⌝ }
+// What aging by days would apply: checks 1 to 9 and 20 of the record, 22 and 23 of the table, and then the table's tolerance for that day.
+pub fn days_apply(b: &[u8], days: Days, t: Table) -> Applied
+    ensures { λ r. ⌜ applied r ≡ apply-answer (now (b .entry)) (days .0) (tableOf t) ⌝ }
 {
     let v = record::check(b);
     match v {
-        Checked::Refused(k) => Aged::Refused(k),
-        Checked::Accepted => {
-            let t = in_unit(format::kind_at(b), tolerance_for(days));
-            Aged::Count(thin_if(b, t))
-        },
+        Checked::Refused(k) => Applied::Refused(k),
+        Checked::Accepted => in_unit(format::kind_at(b), table::tolerance_on(t, days)),
+    }
+}
+
+// Ages the record at the start of the buffer by days, by the table that is handed in.
+pub fn age_by_days(b: &mut [u8], days: Days, t: Table) -> Aged
+    ensures { λ r. ⌜ (counted r ≡ days-answer (now (b .entry)) (days .0) (tableOf t)) × (now (b .exit) ≡ aged-by-days (now (b .entry)) (days .0) (tableOf t)) ⌝ }
+{
+    let a = days_apply(b, days, t);
+    match a {
+        Applied::Refused(k) => Aged::Refused(k),
+        Applied::NoTolerance => Aged::Count(0),
+        Applied::At(e) => Aged::Count(thin(b, e)),
     }
 }

@@ -95,6 +95,7 @@ asked-crossing s e box = record {
   end = e;
   box = box;
   output = nothing .output;
+  table = nothing .table;
 }
 
 -- On lent bytes: "the crossing 1 to 9, 13, 14", and 20 after 9.

@@ -1,19 +1,23 @@
 -- THE INTERFACE'S NUMBERS: what the layers' definitions give, as programs in other languages get it. A refusal is its number, and 0 is none.
 -- `declared.X` is the struct X of the code.
-use mathlib.Core.List.{List}
+use mathlib.Core.Path.{_≡_}
+use mathlib.Core.List.{List, []}
 use mathlib.Core.Option.{Option, some, none}
 use Prim.Native.Nat.{ℕ}
 use lib.IntN.{pos, natAbs}
 use Rattle.distance.specs.Fix.{Fix}
 use Rattle.format.specs.Format.{kind-field, count-field, mark-field}
-use Rattle.record.specs.Checks.{read-refusal}
-use Rattle.record.specs.Answers.{Answer, gives, turns-away, answer}
+use Rattle.record.specs.Checks.{Row, read-refusal, load-refusal}
+use Rattle.record.specs.Answers.{Answer, gives, turns-away, answer, unless}
 use Rattle.record.specs.Reading.{yields}
+use Rattle.table.specs.Answers.{tableOf, ClearedAfter}
 use Rattle.moment.specs.Moment.{Standing}
 use Rattle.legs.specs.declared.Fraction.{Fraction}
 use Rattle.export.specs.declared.Head.{Head}
 use Rattle.export.specs.declared.Step.{Step}
 use Rattle.export.specs.declared.Answer.{Answer as Numbers}
+use Rattle.export.specs.declared.Loaded.{Loaded}
+use Rattle.export.specs.declared.Applied.{Applied}
 use Rattle.export.specs.declared.Run.{Run}
 use Rattle.export.specs.declared.Spot.{Spot}
 use Rattle.export.specs.declared.Crossing.{Crossing}
@@ -40,6 +44,21 @@ step-numbers kind (turns-away k) = record { refusal = k; found = 0; kind = 0; t 
 abbrev pub value-numbers : Answer ℕ → Numbers
 value-numbers (gives n) = record { refusal = 0; value = n }
 value-numbers (turns-away k) = record { refusal = k; value = 0 }
+
+-- The number of a refusal, and 0 for none.
+abbrev pub refusal-number : Option ℕ → ℕ
+refusal-number none = 0
+refusal-number (some k) = k
+
+-- The table of these rows, with nothing behind them, or a table without rows and the refusal.
+abbrev pub LoadNumbers : List Row → Loaded → Type 0
+LoadNumbers rows l = (l .refusal ≡ refusal-number (load-refusal rows)) × (tableOf (l .table) ≡ unless (load-refusal rows) [] rows) × ClearedAfter (l .table)
+
+-- The tolerance that days apply, or none, unless there is a refusal.
+abbrev pub applied-numbers : Answer (Option ℕ) → Applied
+applied-numbers (gives (some e)) = record { refusal = 0; applies = 1; tolerance = e }
+applied-numbers (gives none) = record { refusal = 0; applies = 0; tolerance = 0 }
+applied-numbers (turns-away k) = record { refusal = k; applies = 0; tolerance = 0 }
 
 -- How many calls of a list were turned away, unless there is a refusal.
 abbrev pub run-numbers : Answer ℕ → Run

@@ -1,23 +1,27 @@
 -- The interface's numbers: 0 is no check's number, so that a refusal of 0 is none; and what the functions' arms answer.
-use mathlib.Core.Path.{_≡_, refl, _∙_}
+use mathlib.Core.Path.{_≡_, refl, sym, _∙_, ap}
 use mathlib.Core.Bool.{Bool}
-use mathlib.Core.List.{List}
+use mathlib.Core.List.{List, []}
 use mathlib.Core.Option.{Option, some, none}
 use Prim.Native.Nat.{ℕ, _≤_}
 use native.Mathlib.Omega.{arith}
+use lib.ListN.{length}
 use lib.IntN.{ℤ, pos}
 use Rattle.distance.specs.Fix.{Fix}
 use Rattle.format.specs.Kinds.{Kind}
 use Rattle.format.specs.Format.{kind-field, count-field, mark-field, of-head}
-use Rattle.record.specs.Checks.{Check, few-bytes, other-kind, bad-count, bad-length, short-record, bad-mark, misplaced, unordered, long-span, high-tolerance, bad-thousandths, bad-moment, bad-window, bad-box, short-output, bad-silence, moment-in-silence, number, first, FirstHolds, this, not-before, refusal-of, placing, crossing as crosses, read-refusal}
-use Rattle.record.specs.Answers.{Answer, gives, turns-away, answer as told}
+use Rattle.record.specs.Checks.{Check, few-bytes, other-kind, bad-count, bad-length, short-record, bad-mark, misplaced, unordered, long-span, high-tolerance, bad-thousandths, bad-moment, bad-window, bad-box, short-output, bad-silence, moment-in-silence, bad-row-count, bad-rows, Row, number, first, FirstHolds, this, not-before, refusal-of, placing, crossing as crosses, read-refusal, load-refusal}
+use Rattle.record.specs.Answers.{Answer, gives, turns-away, answer as told, unless}
+use Rattle.record.specs.Examples.{row}
+use Rattle.table.specs.Answers.{row-at, tableOf}
+use Rattle.table.specs.Laws.Checking.{count-is}
 use Rattle.writing.specs.Writing.{write-refusal, write-answer}
 use Rattle.record.specs.Laws.First.{first-exactly}
 use Rattle.record.specs.Laws.Head.{accepted-head}
 use Rattle.format.specs.Laws.Layout.{of-head-field}
 use Rattle.distance.specs.Box.{Box, box-with}
 use Rattle.record.specs.Reading.{yields, read-answer}
-use Rattle.aging.specs.Aging.{Call, age-refusal, age-answer, days-refusal, days-answer}
+use Rattle.aging.specs.Aging.{Call, age-refusal, age-answer, days-refusal, apply-answer, days-answer}
 use Rattle.questions.specs.Agings.{run-answer, after-answer}
 use Rattle.moment.specs.Moment.{asked-moment, place-answer}
 use Rattle.crossing.specs.Crossing.{asked-crossing, cross-answer}
@@ -26,9 +30,10 @@ use Rattle.moment.specs.declared.Placed.{Placed}
 use Rattle.moment.specs.declared.Placed.the-variants as Place
 use Rattle.moment.specs.Answers.{placed}
 use Rattle.export.specs.declared.Head.{Head}
+use Rattle.export.specs.declared.Loaded.{Loaded}
 use Rattle.export.specs.declared.Step.{Step}
 use Rattle.export.specs.declared.Spot.{Spot as Numbers}
-use Rattle.export.specs.Interface.{checked-numbers, head-numbers, yield-answer, step-numbers, value-numbers, run-numbers, spot-numbers, crossing-numbers}
+use Rattle.export.specs.Interface.{checked-numbers, head-numbers, yield-answer, step-numbers, value-numbers, refusal-number, LoadNumbers, applied-numbers, run-numbers, spot-numbers, crossing-numbers}
 
 -- ---- 0 is none
 numbered : (c : Check) → 1 ≤ number c
@@ -49,6 +54,8 @@ numbered bad-box = omega arith
 numbered short-output = omega arith
 numbered bad-silence = omega arith
 numbered moment-in-silence = omega arith
+numbered bad-row-count = omega arith
+numbered bad-rows = omega arith
 
 holds-numbered : {says : Check → Bool} {k : ℕ} {l : List Check} → FirstHolds says k l → 1 ≤ k
 holds-numbered (this {c} h e) = let p = numbered c in omega arith
@@ -81,8 +88,31 @@ written-none K l out h = answer-none (λ a. value-numbers a .refusal) (λ k. ref
 pub aged-none : (b : List ℕ) (e : ℕ) → value-numbers (age-answer b e) .refusal ≡ 0 → age-refusal b e ≡ none
 aged-none b e h = answer-none (λ a. value-numbers a .refusal) (λ k. refl) _ _ _ h
 
-pub days-none : (b : List ℕ) (days : ℕ) → value-numbers (days-answer b days) .refusal ≡ 0 → days-refusal b ≡ none
-days-none b days h = answer-none (λ a. value-numbers a .refusal) (λ k. refl) _ _ _ h
+pub days-none : (b : List ℕ) (days : ℕ) (rows : List Row) → value-numbers (days-answer b days rows) .refusal ≡ 0 → days-refusal b rows ≡ none
+days-none b days rows h = answer-none (λ a. value-numbers a .refusal) (λ k. refl) _ _ _ h
+
+-- .. what days apply is told, the table is loaded, ..
+pub applied-none : (b : List ℕ) (days : ℕ) (rows : List Row) → applied-numbers (apply-answer b days rows) .refusal ≡ 0 → days-refusal b rows ≡ none
+applied-none b days rows h = answer-none (λ a. applied-numbers a .refusal) (λ k. refl) _ _ _ h
+
+module _ (rows : List Row) (l : Loaded) (is : LoadNumbers rows l) where
+  pub loaded-none : l .refusal ≡ 0 → (load-refusal rows ≡ none) × (tableOf (l .table) ≡ rows)
+  loaded-none h = go (load-refusal rows) refl (sym (is .0) ∙ h) (is .1)
+    where
+      go : (o : Option ℕ) → load-refusal rows ≡ o → refusal-number o ≡ 0 → tableOf (l .table) ≡ unless o [] rows → (load-refusal rows ≡ none) × (tableOf (l .table) ≡ rows)
+      go none e z t = (e, t)
+      go (some k) e z t = let p = first-numbered _ _ k e in absurd (omega arith)
+
+  -- else the table has no rows, and behind its rows a table has nothing but 0
+  pub loaded-refused : 1 ≤ l .refusal → (load-refusal rows ≡ some (l .refusal)) × (l .table .count ≡ 0)
+  loaded-refused h = go (load-refusal rows) refl (is .0) (is .1)
+    where
+      go : (o : Option ℕ) → load-refusal rows ≡ o → l .refusal ≡ refusal-number o → tableOf (l .table) ≡ unless o [] rows → (load-refusal rows ≡ some (l .refusal)) × (l .table .count ≡ 0)
+      go none e z t = absurd (omega arith)
+      go (some k) e z t = (e ∙ ap some (sym z), sym (count-is (l .table)) ∙ ap length t)
+
+  pub loaded-clear : (k : ℕ) → l .table .count ≤ k → row-at (l .table) k ≡ row 0 0
+  loaded-clear = is .2
 
 -- .. the fix is yielded, all of them are, the list is made, ..
 pub yielded-none : (b : List ℕ) (position : ℕ) → step-numbers (kind-field b) (yield-answer b position) .refusal ≡ 0 → read-refusal b ≡ none

@@ -1,12 +1,14 @@
 // The interface for programs in other languages: thin functions over the layers, with numbers for answers. A refusal is its number, and 0 is none.
 // None asks anything of its caller, since nothing would check that. include/trails.h says the same to a C programmer.
 mod questions_of;
+mod tables_of;
 
 use aging::Aged;
-use aging::Days;
 use distance::Coordinate;
 use distance::Tolerance;
 use format::Kind;
+use table::Days;
+use table::Table;
 use writing::Written;
 ghost use mathlib.Core.Path.{_≡_};
 ghost use mathlib.Core.List.{[], _++_};
@@ -19,6 +21,7 @@ ghost use Rattle.record.specs.Reading.{read-answer, times-read, xs-read, ys-rea
 ghost use Rattle.record.specs.Answers.{gives, found};
 ghost use Rattle.writing.specs.Answers.{wrote};
 ghost use Rattle.writing.specs.Writing.{columns, write-answer, written};
+ghost use Rattle.table.specs.Answers.{tableOf};
 ghost use Rattle.aging.specs.Answers.{counted};
 ghost use Rattle.aging.specs.Aging.{age-answer, aged, days-answer, aged-by-days};
 ghost use Rattle.export.specs.Interface.{head-numbers, yield-answer, step-numbers, value-numbers};
@@ -50,6 +53,21 @@ pub struct Step {
 pub struct Answer {
     pub refusal: u32,
     pub value: u32,
+}
+
+// A refusal, or the table that was loaded, which is one without rows where there is a refusal.
+#[repr(C)]
+pub struct Loaded {
+    pub refusal: u32,
+    pub table: Table,
+}
+
+// A refusal, or whether days apply a tolerance to a record, and which, in its unit.
+#[repr(C)]
+pub struct Applied {
+    pub refusal: u32,
+    pub applies: u32,
+    pub tolerance: u32,
 }
 
 // A refusal, or how many calls of a list were turned away.
@@ -280,11 +298,11 @@ pub extern "C" fn trails_age(b: &mut [u8], tolerance: u16) -> Answer
     count_of(a)
 }
 
-// Ages the record at the start of the buffer by days.
+// Ages the record at the start of the buffer by days, by the table that is handed in.
 #[no_mangle]
-pub extern "C" fn trails_age_by_days(b: &mut [u8], days: u16) -> Answer
-    ensures { λ r. ⌜ (r ≡ value-numbers (days-answer (now (b .entry)) days)) × (now (b .exit) ≡ aged-by-days (now (b .entry)) days) ⌝ }
+pub extern "C" fn trails_age_by_days(b: &mut [u8], days: u16, t: Table) -> Answer
+    ensures { λ r. ⌜ (r ≡ value-numbers (days-answer (now (b .entry)) days (tableOf t))) × (now (b .exit) ≡ aged-by-days (now (b .entry)) days (tableOf t)) ⌝ }
 {
-    let a = aging::age_by_days(b, Days(days));
+    let a = aging::age_by_days(b, Days(days), t);
     count_of(a)
 }

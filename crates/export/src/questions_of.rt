@@ -135,12 +135,12 @@ fn run_of(r: Ran) -> Run
     }
 }
 
-// Makes the agings of a list, one after the other.
+// Makes the agings of a list, one after the other, each by days with its own of the lent tables.
 #[no_mangle]
-pub extern "C" fn trails_run(b: &mut [u8], calls: &[u32]) -> Run
-    ensures { λ r. ⌜ (r ≡ run-numbers (run-answer (now (b .entry)) (calls-of (now (calls .entry))))) × (now (b .exit) ≡ run (now (b .entry)) (calls-of (now (calls .entry)))) ⌝ }
+pub extern "C" fn trails_run(b: &mut [u8], calls: &[u64], tables: &[u16]) -> Run
+    ensures { λ r. ⌜ (r ≡ run-numbers (run-answer (now (b .entry)) (calls-of (now (tables .entry)) (now (calls .entry))))) × (now (b .exit) ≡ run (now (b .entry)) (calls-of (now (tables .entry)) (now (calls .entry)))) ⌝ }
 {
-    let r = questions::call_all(b, calls);
+    let r = questions::call_all(b, calls, tables);
     run_of(r)
 }
 
@@ -149,7 +149,8 @@ pub extern "C" fn trails_run(b: &mut [u8], calls: &[u32]) -> Run
 #[no_mangle]
 pub extern "C" fn trails_crosses_after(
     b: &mut [u8],
-    calls: &[u32],
+    calls: &[u64],
+    tables: &[u16],
     start: u32,
     end: u32,
     left: i32,
@@ -157,11 +158,12 @@ pub extern "C" fn trails_crosses_after(
     bottom: i32,
     top: i32,
 ) -> Crossing
-    ensures { λ r. ⌜ (r ≡ crossing-numbers (after-answer (now (b .entry)) (calls-of (now (calls .entry))) start end (box-with left right bottom top))) × (now (b .exit) ≡ left-after (now (b .entry)) (calls-of (now (calls .entry))) start end (box-with left right bottom top)) × (IsAccepted (now (b .entry)) → mark-field (now (b .entry)) ≡ never → Claim (now (b .entry)) (calls-of (now (calls .entry)))) ⌝ }
+    ensures { λ r. ⌜ (r ≡ crossing-numbers (after-answer (now (b .entry)) (calls-of (now (tables .entry)) (now (calls .entry))) start end (box-with left right bottom top))) × (now (b .exit) ≡ left-after (now (b .entry)) (calls-of (now (tables .entry)) (now (calls .entry))) start end (box-with left right bottom top)) × (IsAccepted (now (b .entry)) → mark-field (now (b .entry)) ≡ never → Claim (now (b .entry)) (calls-of (now (tables .entry)) (now (calls .entry)))) ⌝ }
 {
     let c = questions::crosses_after(
         b,
         calls,
+        tables,
         window(start, end),
         edges(left, right, bottom, top),
     );

@@ -1,9 +1,9 @@
 -- LISTS OF AGINGS. Document 01: "The list may be empty. It holds agings by tolerance and agings by days, refused ones too, on one lent buffer that
--- begins with an accepted record marked never, the original."
+-- begins with an accepted record marked never, the original." Document 02, item 6: "in demand 3's lists each call may have another" table.
 use mathlib.Core.List.{List, [], _∷_}
 use mathlib.Core.Option.{Option, some, none}
 use mathlib.Core.Bool.{cond}
-use Prim.Native.Nat.{ℕ, _+_, _%_, max}
+use Prim.Native.Nat.{ℕ, _+_, _-_, _/_, _%_, max}
 use lib.Dec.{ltb}
 use Rattle.distance.specs.Fix.{Fix, last-of}
 use Rattle.distance.specs.Place.{Time, From, Until}
@@ -12,6 +12,7 @@ use Rattle.format.specs.Kinds.{Kind}
 use Rattle.format.specs.Format.{never, fixes}
 use Rattle.record.specs.Checks.{read-refusal}
 use Rattle.record.specs.Answers.{Answer, gives, turns-away, answer, unless}
+use Rattle.table.specs.Table.{table-at}
 use Rattle.thinning.specs.Thinning.{thinned}
 use Rattle.aging.specs.Aging.{Call, by-tolerance, by-days, left-by, answered, applies}
 use Rattle.legs.specs.declared.Fraction.{Fraction}
@@ -86,11 +87,12 @@ abbrev pub AskedOf : List Fix → Time → Type 0
 AskedOf [] u = ⊥
 AskedOf (a ∷ l) u = From (a .t) u × Until ((last-of a l) .t) u
 
--- ---- a list of calls as numbers: below 65,536 a tolerance, from there on 65,536 and days. Every number is a call, and every list of calls of 16
--- bits is one of numbers (`numbers-of` of Laws/Agings.antt).
-unfoldable pub call-of : ℕ → Call
-call-of n = cond (ltb n 65536) (by-tolerance n) (by-days (n % 65536))
+-- ---- a list of calls as numbers, beside a lent list of tables (`table-at` of the table's Table.antt). Below 65,536 a number is a tolerance. From there on it is a
+-- day, n % 65,536, by one of the tables, which n / 65,536 counts from 1. Every number is a call, and every list of calls that anybody could make has its numbers and
+-- tables (`by-number` and `numbers-of` of Laws/Calls.antt).
+unfoldable pub call-of : (tables : List ℕ) → ℕ → Call
+call-of tables n = cond (ltb n 65536) (by-tolerance n) (by-days (n % 65536) (table-at tables (n / 65536 - 1)))
 
-unfoldable pub calls-of : List ℕ → List Call
-calls-of [] = []
-calls-of (n ∷ l) = call-of n ∷ calls-of l
+unfoldable pub calls-of : (tables : List ℕ) → List ℕ → List Call
+calls-of tables [] = []
+calls-of tables (n ∷ l) = call-of tables n ∷ calls-of tables l

@@ -1,7 +1,7 @@
 -- The claim on one buffer: the trail of document 01's rows h to j, never thinned, with two bytes after it. No hypothesis of the claim is empty, and
--- each list leaves what the table says; of the trail of row b too.
+-- each list leaves what those rows say; of the trail of row b too.
 use mathlib.Core.Path.{_≡_, refl}
-use mathlib.Core.List.{List, [], _∷_}
+use mathlib.Core.List.{List, [], _∷_, _++_}
 use mathlib.Core.Option.{Option, some, none}
 use Prim.Native.Nat.{ℕ}
 use native.Mathlib.Omega.{arith}
@@ -13,20 +13,22 @@ use Rattle.distance.specs.Clock.{moved}
 use Rattle.distance.specs.Laws.All.{All, all-always}
 use Rattle.format.specs.Bytes.{number-at, bytes-of, signed, unsigned}
 use Rattle.format.specs.Format.{kind-of, never, mark-field, fix-from, fix-at, each, fix-to, fix-bytes, all-bytes, header-bytes, record-bytes}
-use Rattle.record.specs.Checks.{IsAccepted, sentence, first, some-outside, some-other-silence, some-early-after, some-early, of-ends}
+use Rattle.record.specs.Checks.{IsAccepted, sentence, first, some-bad-row, some-outside, some-other-silence, some-early-after, some-early, of-ends}
 use Rattle.record.specs.Answers.{Answer, gives, turns-away}
 use Rattle.format.specs.Laws.RoundTrip.{AreBytes, all-below, computed-bytes}
 use Rattle.thinning.specs.Thinning.{sooner, furthest, every, but-last, thin-span, thin, joined, stretches, thin-each, thinning}
-use Rattle.aging.specs.Examples.{straight, parted-trail, parted-aged}
-use Rattle.aging.specs.Aging.{Call, by-tolerance, by-days, new-mark, thinned-record, last-row}
+use Rattle.aging.specs.Examples.{straight, parted-trail, parted-aged, low-rows}
+use Rattle.aging.specs.Aging.{Call, by-tolerance, by-days, new-mark, thinned-record}
 use Rattle.aging.specs.Tenfold.{at-ten-times, by-same-days, both-too-high}
+use Rattle.table.specs.Table.{last-row, built-in}
+use Rattle.table.specs.Examples.{built-in-numbers, own-numbers}
 use Rattle.legs.specs.declared.Fraction.{Fraction}
 use Rattle.crossing.specs.Crossing.{first-crossing, first-from, cross-answer}
 use Rattle.legs.specs.Legs.{leg-first, leg-times, axis-times, first-of, later-of, earlier-of}
-use Rattle.record.specs.Examples.{MovableRow, movable-rows}
+use Rattle.record.specs.Examples.{MovableRow, movable-rows, row}
 use Rattle.record.specs.Moved.{moved-record}
 use Rattle.record.specs.Tenfold.{tenfold-mark, tenfold-record}
-use Rattle.questions.specs.Agings.{run, after-answer}
+use Rattle.questions.specs.Agings.{run, after-answer, call-of, calls-of}
 use Rattle.questions.specs.Claim.{Claim}
 use Rattle.questions.specs.Tenfold.{TenfoldCalls, no-calls, and-then, all-answered, TenfoldClaim}
 use Rattle.questions.specs.Laws.Moved.{after-answer-moved}
@@ -136,17 +138,19 @@ cases =
     ∷ record { buffer = lent; calls = by-tolerance 25 ∷ by-tolerance 12 ∷ []; bytes = left-at-25 }
     ∷ record { buffer = lent; calls = by-tolerance 12 ∷ by-tolerance 25 ∷ []; bytes = left-at-12-and-25 }
     -- days 0 and 1 leave the record, day 7 thins at 25
-    ∷ record { buffer = lent; calls = by-days 1 ∷ []; bytes = lent }
-    ∷ record { buffer = lent; calls = by-days 7 ∷ by-tolerance 65535 ∷ by-days 2 ∷ []; bytes = left-at-25 }
+    ∷ record { buffer = lent; calls = by-days 1 built-in ∷ []; bytes = lent }
+    ∷ record { buffer = lent; calls = by-days 7 built-in ∷ by-tolerance 65535 ∷ by-days 2 built-in ∷ []; bytes = left-at-25 }
+    -- "each call may have another" table: of a table of one's own, and then the built-in one; between them two are turned away, and leave E and every byte
+    ∷ record { buffer = lent; calls = by-days 7 (row 7 12 ∷ []) ∷ by-days 7 [] ∷ by-days 7 (row 7 25 ∷ row 7 400 ∷ []) ∷ by-days 7 built-in ∷ []; bytes = left-at-12-and-25 }
     -- E 0 is not E none, though both count as 0 for the bound: the fix in the middle of a straight line goes, and the mark is 0
-    ∷ record { buffer = straight; calls = by-days 1 ∷ []; bytes = straight }
+    ∷ record { buffer = straight; calls = by-days 1 built-in ∷ []; bytes = straight }
     ∷ record { buffer = straight; calls = by-tolerance 0 ∷ []; bytes = straight-at-0 }
     -- of kind 2, 60,001 is refused and 32,001 is not; day 7 thins at 250, which the mark stays above
     ∷ record { buffer = lent-in-kind-2; calls = by-tolerance 60001 ∷ []; bytes = lent-in-kind-2 }
-    ∷ record { buffer = lent-in-kind-2; calls = by-tolerance 32001 ∷ by-days 7 ∷ []; bytes = left-at-32001 }
+    ∷ record { buffer = lent-in-kind-2; calls = by-tolerance 32001 ∷ by-days 7 built-in ∷ []; bytes = left-at-32001 }
     -- of kind 3 each stretch is thinned by itself, at 25 and after it at 12 too, and 32,001 is refused
     ∷ record { buffer = lent-in-kind-3 255 255; calls = by-tolerance 25 ∷ by-tolerance 32001 ∷ by-tolerance 12 ∷ []; bytes = lent-in-kind-3 25 0 }
-    ∷ record { buffer = parted-trail; calls = by-tolerance 0 ∷ by-days 7 ∷ []; bytes = parted-aged 25 0 }
+    ∷ record { buffer = parted-trail; calls = by-tolerance 0 ∷ by-days 7 built-in ∷ []; bytes = parted-aged 25 0 }
     ∷ []
 
 abbrev pub computed : List Example → List (List ℕ)
@@ -158,8 +162,13 @@ expected [] = []
 expected (r ∷ l) = r .bytes ∷ expected l
 
 pub examples : computed cases ≡ expected cases
-unfolding run thinned-record new-mark last-row thinning thin-each stretches joined thin thin-span furthest sooner every but-last last-of deviation allowance first sentence some-outside some-other-silence some-early-after some-early of-ends kind-of fix-from fix-at each number-at signed unsigned bytes-of fix-to fix-bytes all-bytes header-bytes record-bytes
+unfolding run thinned-record new-mark last-row some-bad-row thinning thin-each stretches joined thin thin-span furthest sooner every but-last last-of deviation allowance first sentence some-outside some-other-silence some-early-after some-early of-ends kind-of fix-from fix-at each number-at signed unsigned bytes-of fix-to fix-bytes all-bytes header-bytes record-bytes
 examples = refl
+
+-- ---- calls as numbers: a tolerance; day 7 by the first table that is lent, the built-in one, as of old; by the second; and by a third, which isn't lent
+pub numbered-calls-computed : calls-of (built-in-numbers ++ own-numbers) (25 ∷ 65543 ∷ 131079 ∷ 196615 ∷ []) ≡ by-tolerance 25 ∷ by-days 7 built-in ∷ by-days 7 (row 7 12 ∷ []) ∷ by-days 7 [] ∷ []
+unfolding calls-of call-of each
+numbered-calls-computed = refl
 
 -- ---- the crossing on it: the original reaches x = 20, what is left at 25 does not
 abbrev pub shelf : Box
@@ -175,9 +184,9 @@ unfolding first sentence some-outside some-other-silence some-early-after some-e
 crossings = refl
 
 -- ---- the law of a moved clock and a list, of bytes that are accepted and of refused ones
-pub movable-after : All (λ (m : MovableRow). after-answer (moved-record (m .by) (m .buffer)) (by-days 7 ∷ by-tolerance 32001 ∷ []) (moved (m .by) (m .asked)) (moved (m .by) (m .asked)) shelf
-    ≡ after-answer (m .buffer) (by-days 7 ∷ by-tolerance 32001 ∷ []) (m .asked) (m .asked) shelf) movable-rows
-movable-after = all-always (λ (m : MovableRow). after-answer-moved (m .by) (m .buffer) (by-days 7 ∷ by-tolerance 32001 ∷ []) (m .bytes) (m .movable) (m .asked) (m .asked) shelf (m .asked-stays) (m .asked-stays)) movable-rows
+pub movable-after : All (λ (m : MovableRow). after-answer (moved-record (m .by) (m .buffer)) (by-days 7 built-in ∷ by-tolerance 32001 ∷ []) (moved (m .by) (m .asked)) (moved (m .by) (m .asked)) shelf
+    ≡ after-answer (m .buffer) (by-days 7 built-in ∷ by-tolerance 32001 ∷ []) (m .asked) (m .asked) shelf) movable-rows
+movable-after = all-always (λ (m : MovableRow). after-answer-moved (m .by) (m .buffer) (by-days 7 built-in ∷ by-tolerance 32001 ∷ []) (m .bytes) (m .movable) (m .asked) (m .asked) shelf (m .asked-stays) (m .asked-stays)) movable-rows
 
 -- ---- CENTIMETRES AND MILLIMETRES: the buffer above, and its trail in millimetres. The claim holds of every two lists of the same agings, such as these: at 12 and
 -- 120, at a tolerance that each turns away, by days, which is at 25 and 250, and at the greatest that both have.
@@ -185,8 +194,8 @@ pub lent-in-millimetres : {calls tens : List Call} → TenfoldCalls calls tens �
 unfolding kind-of number-at
 lent-in-millimetres k = made-tenfold lent lent-bytes lent-accepted refl lent-never k
 
-pub same-agings : TenfoldCalls (by-tolerance 12 ∷ by-tolerance 32001 ∷ by-days 7 ∷ by-tolerance 6000 ∷ []) (by-tolerance 120 ∷ by-tolerance 60001 ∷ by-days 7 ∷ by-tolerance 60000 ∷ [])
-same-agings = and-then (at-ten-times {e = 12} (omega arith)) (and-then (both-too-high {e = 32001} {d = 60001} (omega arith) (omega arith)) (and-then by-same-days (and-then (at-ten-times {e = 6000} (omega arith)) no-calls)))
+pub same-agings : TenfoldCalls (by-tolerance 12 ∷ by-tolerance 32001 ∷ by-days 7 built-in ∷ by-tolerance 6000 ∷ []) (by-tolerance 120 ∷ by-tolerance 60001 ∷ by-days 7 built-in ∷ by-tolerance 60000 ∷ [])
+same-agings = and-then (at-ten-times {e = 12} (omega arith)) (and-then (both-too-high {e = 32001} {d = 60001} (omega arith) (omega arith)) (and-then (by-same-days low-rows) (and-then (at-ten-times {e = 6000} (omega arith)) no-calls)))
 
 -- In numbers: at 120 the first, the second and the last fix stay, as at 12, and by days of those the first and the last, under a mark of 250. (0, 20 and 0
 -- centimetres are 0, 200 and 0 millimetres.)
@@ -209,7 +218,7 @@ millimetres-at-120-and-250 =
     ∷ []
 
 pub millimetres-left : (run (tenfold-record lent) (by-tolerance 120 ∷ []) ≡ millimetres-at-120)
-    × (run (tenfold-record lent) (by-tolerance 120 ∷ by-tolerance 60001 ∷ by-days 7 ∷ []) ≡ millimetres-at-120-and-250)
-    × (all-answered (tenfold-record lent) (by-tolerance 120 ∷ by-tolerance 60001 ∷ by-days 7 ∷ []) ≡ gives 3 ∷ turns-away 10 ∷ gives 1 ∷ [])
-unfolding tenfold-record tenfold-mark all-answered run thinned-record new-mark last-row thinning thin-each stretches joined thin thin-span furthest sooner every but-last last-of deviation allowance first sentence some-outside some-other-silence some-early-after some-early of-ends kind-of fix-from fix-at each number-at signed unsigned bytes-of fix-to fix-bytes all-bytes header-bytes record-bytes
+    × (run (tenfold-record lent) (by-tolerance 120 ∷ by-tolerance 60001 ∷ by-days 7 built-in ∷ []) ≡ millimetres-at-120-and-250)
+    × (all-answered (tenfold-record lent) (by-tolerance 120 ∷ by-tolerance 60001 ∷ by-days 7 built-in ∷ []) ≡ gives 3 ∷ turns-away 10 ∷ gives 1 ∷ [])
+unfolding tenfold-record tenfold-mark all-answered run thinned-record new-mark last-row some-bad-row thinning thin-each stretches joined thin thin-span furthest sooner every but-last last-of deviation allowance first sentence some-outside some-other-silence some-early-after some-early of-ends kind-of fix-from fix-at each number-at signed unsigned bytes-of fix-to fix-bytes all-bytes header-bytes record-bytes
 millimetres-left = (refl, refl, refl)

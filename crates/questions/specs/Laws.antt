@@ -1,5 +1,6 @@
 -- What is proved of the definitions, each law once.
 pub mod Agings
+pub mod Calls
 pub mod Asked
 pub mod Moved
 pub mod Tenfold

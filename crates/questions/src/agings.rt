@@ -1,11 +1,11 @@
-// Lists of agings: the calls of a lent list, made one after the other on one lent buffer.
+// Lists of agings: the calls of a lent list, made one after the other on one lent buffer, each by days with its own of the lent tables.
 use aging::Aged;
-use aging::Days;
 use crossing::Crossed;
 use crossing::Edges;
 use crossing::Window;
 use distance::Tolerance;
 use record::Checked;
+use table::Days;
 ghost use mathlib.Core.Path.{_≡_};
 ghost use Rattle.format.specs.Format.{never, mark-field};
 ghost use Rattle.record.specs.Checks.{IsAccepted};
@@ -32,51 +32,52 @@ fn turned_away(a: Aged) -> usize
     }
 }
 
-// One call of a list: a number below 65,536 is a tolerance, and one from there on is 65,536 and days.
-fn call(b: &mut [u8], n: u32) -> Aged
-    ensures { λ r. ⌜ (counted r ≡ answered (now (b .entry)) (call-of n)) × (now (b .exit) ≡ left-by (now (b .entry)) (call-of n)) ⌝ }
+// One call of a list: a number below 65,536 is a tolerance, and one from there on is days and one of the lent tables.
+fn call(b: &mut [u8], tables: &[u16], n: u64) -> Aged
+    ensures { λ r. ⌜ (counted r ≡ answered (now (b .entry)) (call-of (now (tables .entry)) n)) × (now (b .exit) ≡ left-by (now (b .entry)) (call-of (now (tables .entry)) n)) ⌝ }
 {
     if n < 65536 {
         return aging::age(b, Tolerance(n as u16));
     }
-    aging::age_by_days(b, Days((n % 65536) as u16))
+    let t = table::lent(tables, (n / 65536 - 1) as usize);
+    aging::age_by_days(b, Days((n % 65536) as u16), t)
 }
 
 // All calls of the list, each given the buffer as the one before left it; says how many were turned away.
-fn call_each(b: &mut [u8], calls: &[u32]) -> usize
-    ensures { λ r. ⌜ (r ≡ refused-calls (now (b .entry)) (calls-of (now (calls .entry)))) × (now (b .exit) ≡ run (now (b .entry)) (calls-of (now (calls .entry)))) ⌝ }
+fn call_each(b: &mut [u8], calls: &[u64], tables: &[u16]) -> usize
+    ensures { λ r. ⌜ (r ≡ refused-calls (now (b .entry)) (calls-of (now (tables .entry)) (now (calls .entry)))) × (now (b .exit) ≡ run (now (b .entry)) (calls-of (now (tables .entry)) (now (calls .entry)))) ⌝ }
 {
     let mut refused = 0;
     let mut i = 0;
     while i < calls.len() {
-        refused += turned_away(call(b, calls[i]));
+        refused += turned_away(call(b, tables, calls[i]));
         i += 1;
     }
     refused
 }
 
 // All calls of the list, if the buffer begins with a record.
-pub fn call_all(b: &mut [u8], calls: &[u32]) -> Ran
-    ensures { λ r. ⌜ (ran r ≡ run-answer (now (b .entry)) (calls-of (now (calls .entry)))) × (now (b .exit) ≡ run (now (b .entry)) (calls-of (now (calls .entry)))) ⌝ }
+pub fn call_all(b: &mut [u8], calls: &[u64], tables: &[u16]) -> Ran
+    ensures { λ r. ⌜ (ran r ≡ run-answer (now (b .entry)) (calls-of (now (tables .entry)) (now (calls .entry)))) × (now (b .exit) ≡ run (now (b .entry)) (calls-of (now (tables .entry)) (now (calls .entry)))) ⌝ }
 {
     let v = record::check(b);
     match v {
         Checked::Refused(k) => Ran::Refused(k),
-        Checked::Accepted => Ran::TurnedAway(call_each(b, calls)),
+        Checked::Accepted => Ran::TurnedAway(call_each(b, calls, tables)),
     }
 }
 
 // All calls of the list, and then a crossing asked of what they left. A question that is refused is refused first, and then nothing is done. Of an original,
 // an accepted record marked never, the claim holds: what is left is Douglas-Peucker's of the original at the greatest tolerance applied, and the answer is
 // true of the original within it.
-pub fn crosses_after(b: &mut [u8], calls: &[u32], w: Window, e: Edges) -> Crossed
-    ensures { λ r. ⌜ (crossed r ≡ after-answer (now (b .entry)) (calls-of (now (calls .entry))) (w .start .0) (w .end .0) (boxOf e)) × (now (b .exit) ≡ left-after (now (b .entry)) (calls-of (now (calls .entry))) (w .start .0) (w .end .0) (boxOf e)) × (IsAccepted (now (b .entry)) → mark-field (now (b .entry)) ≡ never → Claim (now (b .entry)) (calls-of (now (calls .entry)))) ⌝ }
+pub fn crosses_after(b: &mut [u8], calls: &[u64], tables: &[u16], w: Window, e: Edges) -> Crossed
+    ensures { λ r. ⌜ (crossed r ≡ after-answer (now (b .entry)) (calls-of (now (tables .entry)) (now (calls .entry))) (w .start .0) (w .end .0) (boxOf e)) × (now (b .exit) ≡ left-after (now (b .entry)) (calls-of (now (tables .entry)) (now (calls .entry))) (w .start .0) (w .end .0) (boxOf e)) × (IsAccepted (now (b .entry)) → mark-field (now (b .entry)) ≡ never → Claim (now (b .entry)) (calls-of (now (tables .entry)) (now (calls .entry)))) ⌝ }
 {
     let v = crossing::cross_says(b, w, e);
     match v {
         Checked::Refused(k) => Crossed::Refused(k),
         Checked::Accepted => {
-            call_each(b, calls);
+            call_each(b, calls, tables);
             crossing::cross_asked(b, w, e)
         },
     }

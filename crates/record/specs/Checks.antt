@@ -2,7 +2,7 @@
 -- earlier check of that operation fails, and never otherwise." (`first-exactly` of Laws/First.antt.)
 use mathlib.Core.Path.{_≡_}
 use mathlib.Core.Bool.{Bool, true, false, cond, not, _||_, _&&_}
-use mathlib.Core.List.{List, [], _∷_}
+use mathlib.Core.List.{List, [], _∷_, _++_}
 use mathlib.Core.Option.{Option, some, none}
 use Prim.Native.Nat.{ℕ, _+_, _*_}
 use lib.Dec.{ltb, leb, eqb}
@@ -16,6 +16,11 @@ use Rattle.distance.specs.Silence.{silent, in-silence}
 use Rattle.distance.specs.Box.{Box}
 use Rattle.format.specs.Kinds.{Kind, kinds, coded}
 use Rattle.format.specs.Format.{never, length-field, kind-field, mark-field, count-field, kind-of, record-length, fixes}
+
+-- ---- a row of a hall's aging table. Document 02, item 6: "rows of day and tolerance", the tolerance in centimetres whatever the record's kind
+pub record Row : Type 0 where
+  pub day : ℕ
+  pub row-tolerance : ℕ
 
 -- ---- what a call is handed beside the bytes. A call fills in what it takes; no check that it makes looks at the rest (`reading-alone` and the laws beside it
 -- in Laws/First.antt).
@@ -31,6 +36,8 @@ pub record Given : Type 0 where
   pub box : Box
   -- how many bytes "The output has"
   pub output : ℕ
+  -- the rows of "the table handed to aging by days", or of one that is loaded
+  pub table : List Row
 
 pub record Asked : Type 0 where
   -- how many bytes are lent
@@ -94,6 +101,16 @@ moment-outside s m f l = ltb (1000 * s + m) (1000 * f .t) || ltb (1000 * l .t) (
 abbrev pub second-outside : ℕ → Fix → Fix → Bool
 second-outside s f l = ltb s (f .t) || ltb (l .t) s
 
+-- "days don't rise strictly, tolerances fall, or one is above 32,000": what is wrong with a row, after the row before it if there is one. In centimetres, so that
+-- no kind's limits are asked.
+abbrev pub bad-row : (before : Option Row) → Row → Bool
+bad-row none r = ltb 32000 (r .row-tolerance)
+bad-row (some q) r = leb (r .day) (q .day) || (ltb (r .row-tolerance) (q .row-tolerance) || ltb 32000 (r .row-tolerance))
+
+unfoldable pub some-bad-row : (before : Option Row) → List Row → Bool
+some-bad-row before [] = false
+some-bad-row before (r ∷ rows) = bad-row before r || some-bad-row (some r) rows
+
 -- ---- the checks, and their numbers: document 01's fifteen, and those that document 02 adds
 pub data Check : Type 0 where
   few-bytes : Check
@@ -113,6 +130,8 @@ pub data Check : Type 0 where
   short-output : Check
   bad-silence : Check
   moment-in-silence : Check
+  bad-row-count : Check
+  bad-rows : Check
 
 abbrev pub number : Check → ℕ
 number few-bytes = 1
@@ -132,6 +151,8 @@ number bad-box = 14
 number short-output = 15
 number bad-silence = 20
 number moment-in-silence = 21
+number bad-row-count = 22
+number bad-rows = 23
 
 -- ---- the sentences, each as document 01 has it for its kind, 1. Document 02, item 8: "Checks 2, 4, 6, 7, 10, 14, 15 [..] read the record's own limits." Item 5:
 -- "Checks 2, 4 and 15 take the new kind and length."
@@ -175,11 +196,15 @@ sentence K a short-output = ltb (a .given .output) (record-length K (a .count))
 sentence K a bad-silence = some-other-silence (a .trail-fixes) || of-ends last-silent (a .trail-fixes)
 -- 21. "the moment is strictly inside a silence"
 sentence K a moment-in-silence = in-silence (a .trail-fixes) (moment (a .given .second) (a .given .thousandths))
+-- 22. "there are no rows or more than 32"
+sentence K a bad-row-count = eqb (length (a .given .table)) 0 || ltb 32 (length (a .given .table))
+-- 23. "days don't rise strictly, tolerances fall, or one is above 32,000"
+sentence K a bad-rows = some-bad-row none (a .given .table)
 
--- ---- THE ORDER. Document 02, item 5: "20, directly after 9 and before 16, [..]; 21, after 12".
+-- ---- THE ORDER. Document 02, item 5: "20, directly after 9 and before 16, [..]; 21, after 12"; item 6: "directly after 9 and 20: 22, [..]; 23, next".
 abbrev pub order : List Check
 order =
-    few-bytes ∷ other-kind ∷ bad-count ∷ bad-length ∷ short-record ∷ bad-mark ∷ misplaced ∷ unordered ∷ long-span ∷ bad-silence ∷ high-tolerance
+    few-bytes ∷ other-kind ∷ bad-count ∷ bad-length ∷ short-record ∷ bad-mark ∷ misplaced ∷ unordered ∷ long-span ∷ bad-silence ∷ bad-row-count ∷ bad-rows ∷ high-tolerance
     ∷ bad-thousandths ∷ bad-moment ∷ moment-in-silence ∷ bad-window ∷ bad-box ∷ short-output ∷ []
 
 -- Those of a record's head, and those of its fixes.
@@ -190,7 +215,8 @@ abbrev pub fix-checks : List Check
 fix-checks = misplaced ∷ unordered ∷ long-span ∷ bad-silence ∷ []
 
 -- "Aging makes checks 1 to 10, aging by days 1 to 9, the place question 1 to 9, 11, 12, the crossing 1 to 9, 13, 14, the reader and the listing 1 to
--- 9, the writer 3, 7, 8, 9, 15." Document 02, item 5, puts 20 after 9 in each of them, and 21 after the place question's 12.
+-- 9, the writer 3, 7, 8, 9, 15." Document 02, item 5, puts 20 after 9 in each of them, and 21 after the place question's 12. Item 6 has 22 and 23 "on loading, and
+-- on the table handed to aging by days".
 pub data Operation : Type 0 where
   reading : Operation
   writing : Operation
@@ -198,6 +224,7 @@ pub data Operation : Type 0 where
   aging-by-days : Operation
   placing : Operation
   crossing : Operation
+  loading : Operation
 
 abbrev pub of-record : List ℕ → List ℕ
 of-record l = 1 ∷ 2 ∷ 3 ∷ 4 ∷ 5 ∷ 6 ∷ 7 ∷ 8 ∷ 9 ∷ 20 ∷ l
@@ -206,17 +233,20 @@ abbrev pub makes : Operation → List ℕ
 makes reading = of-record []
 makes writing = 3 ∷ 7 ∷ 8 ∷ 9 ∷ 20 ∷ 15 ∷ []
 makes aging = of-record (10 ∷ [])
-makes aging-by-days = of-record []
+makes aging-by-days = of-record (22 ∷ 23 ∷ [])
 makes placing = of-record (11 ∷ 12 ∷ 21 ∷ [])
 makes crossing = of-record (13 ∷ 14 ∷ [])
+makes loading = 22 ∷ 23 ∷ []
 
 abbrev pub member : ℕ → List ℕ → Bool
 member n [] = false
 member n (m ∷ l) = eqb n m || member n l
 
+-- Those of a list whose numbers are selected. The rest of the list is named once: in both cases of a `cond` it would double what is to be computed with each check
+-- of the order.
 abbrev pub selected : List ℕ → List Check → List Check
 selected s [] = []
-selected s (c ∷ l) = cond (member (number c) s) (c ∷ selected s l) (selected s l)
+selected s (c ∷ l) = cond (member (number c) s) (c ∷ []) [] ++ selected s l
 
 -- An operation's checks: its selection from the order.
 abbrev pub checks : Operation → List Check
@@ -250,7 +280,20 @@ asked-of b g = record {
 
 -- A reader takes nothing besides the bytes.
 abbrev pub nothing : Given
-nothing = record { tolerance = 0; second = 0; thousandths = 0; start = 0; end = 0; box = record { x-low = pos 0; x-high = pos 0; y-low = pos 0; y-high = pos 0 }; output = 0 }
+nothing = record { tolerance = 0; second = 0; thousandths = 0; start = 0; end = 0; box = record { x-low = pos 0; x-high = pos 0; y-low = pos 0; y-high = pos 0 }; output = 0; table = [] }
+
+-- What loads a table, or ages by one, takes its rows.
+abbrev pub with-table : List Row → Given
+with-table rows = record {
+  tolerance = nothing .tolerance;
+  second = nothing .second;
+  thousandths = nothing .thousandths;
+  start = nothing .start;
+  end = nothing .end;
+  box = nothing .box;
+  output = nothing .output;
+  table = rows;
+}
 
 -- The refusal of an operation over lent bytes: by the limits of their own kind.
 abbrev pub refusal-of : Operation → List ℕ → Given → Option ℕ
@@ -258,6 +301,10 @@ refusal-of o b g = refusal (kind-of b) o (asked-of b g)
 
 abbrev pub read-refusal : List ℕ → Option ℕ
 read-refusal b = refusal-of reading b nothing
+
+-- Loading looks at no record, so it is asked of no bytes (`loading-alone` of Laws/First.antt).
+abbrev pub load-refusal : List Row → Option ℕ
+load-refusal rows = refusal-of loading [] (with-table rows)
 
 -- What checks 1 to 6 say: they look at the head alone, and at how many bytes are lent.
 abbrev pub head-refusal : List ℕ → Option ℕ

@@ -1,4 +1,4 @@
--- THE READER IN NUMBERS. Bytes, written out, and what document 01 and document 02's items 5 and 8 say of them: the definitions and the code cannot be changed
+-- THE READER IN NUMBERS. Bytes, written out, and what document 01 and document 02's items 5, 6 and 8 say of them: the definitions and the code cannot be changed
 -- together without these rows. Each line is computed.
 use mathlib.Core.Path.{_≡_, refl}
 use mathlib.Core.List.{List, [], _∷_}
@@ -16,7 +16,7 @@ use Rattle.format.specs.Bytes.{number-at, bytes-of, signed, unsigned}
 use Rattle.format.specs.Format.{kind-of, fix-from, fix-at, each, fix-to, fix-bytes, all-bytes, header-bytes, record-bytes}
 use Rattle.format.specs.Examples.{document-bytes, millimetre-bytes, silence-bytes}
 use Rattle.format.specs.Laws.RoundTrip.{AreBytes, all-below, computed-bytes}
-use Rattle.record.specs.Checks.{first, sentence, some-outside, some-other-silence, some-early-after, some-early, of-ends, read-refusal}
+use Rattle.record.specs.Checks.{Row, first, sentence, some-bad-row, some-outside, some-other-silence, some-early-after, some-early, of-ends, read-refusal, load-refusal}
 use Rattle.record.specs.Answers.{gives, turns-away}
 use Rattle.record.specs.Moved.{Movable}
 use Rattle.record.specs.Tenfold.{tenfold-mark, tenfold-record, Tenfold}
@@ -178,6 +178,42 @@ none-read = (refl, refl, refl, refl)
 pub silences-told : (silences-read silence-bytes (7 ∷ 8 ∷ 9 ∷ []) ≡ 1 ∷ 0 ∷ 9 ∷ []) × (silences-read lent-two (7 ∷ 8 ∷ 9 ∷ []) ≡ 0 ∷ 0 ∷ 9 ∷ [])
 unfolding kind-of first sentence some-outside some-other-silence some-early-after some-early last-of of-ends fix-from fix-at each number-at signed filled
 silences-told = (refl, refl)
+
+-- ---- TABLES: a row, and n rows for day 0, 1 and so on, of tolerance 5
+abbrev pub row : (day tolerance : ℕ) → Row
+row day tolerance = record { day = day; row-tolerance = tolerance }
+
+abbrev pub daily : (n : ℕ) → List Row
+daily n = each (λ k. row k 5) 0 n
+
+-- ---- 22: "there are no rows or more than 32". 23, next: "days don't rise strictly, tolerances fall, or one is above 32,000".
+abbrev pub load-rows : List (List Row × Option ℕ)
+load-rows =
+    ([], some 22)
+    ∷ (daily 1, none)
+    ∷ (daily 32, none)
+    ∷ (daily 33, some 22)
+    -- 22 before 23
+    ∷ (row 7 32001 ∷ daily 32, some 22)
+    -- the first row may be for any day, and give any tolerance up to 32,000
+    ∷ (row 0 0 ∷ [], none)
+    ∷ (row 65535 32000 ∷ [], none)
+    ∷ (row 0 32001 ∷ [], some 23)
+    ∷ (row 0 65535 ∷ [], some 23)
+    -- days rise strictly, and tolerances may stay
+    ∷ (row 2 10 ∷ row 3 10 ∷ [], none)
+    ∷ (row 2 10 ∷ row 2 10 ∷ [], some 23)
+    ∷ (row 3 10 ∷ row 2 10 ∷ [], some 23)
+    ∷ (row 2 10 ∷ row 3 9 ∷ [], some 23)
+    ∷ (row 2 10 ∷ row 3 32001 ∷ [], some 23)
+    -- wherever the fault stands
+    ∷ (row 2 10 ∷ row 7 25 ∷ row 7 100 ∷ row 90 400 ∷ [], some 23)
+    ∷ (row 2 10 ∷ row 7 25 ∷ row 30 100 ∷ row 90 99 ∷ [], some 23)
+    ∷ []
+
+pub loads-computed : Computes load-refusal load-rows
+unfolding first sentence some-bad-row each
+loads-computed = refl
 
 -- ---- BUFFERS WHOSE CLOCK IS MOVED, with all that the laws of it ask, so that nothing they ask is empty: document 01's 18 bytes, their fix moved to the last second
 -- of 32 bits and to the first; the same with x = 16,001, which 7 turns away; and with the mark 32,001, which 6 turns away, so that its time may leave 32 bits. Last

@@ -34,6 +34,7 @@ asked-to-write l output = record {
     end = nothing .end;
     box = nothing .box;
     output = output;
+    table = nothing .table;
   };
 }
 

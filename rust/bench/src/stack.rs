@@ -7,8 +7,7 @@ use std::io;
 use std::process::{Command, ExitCode, Stdio};
 use std::thread;
 
-use trails::in_threes;
-use trails_tests::interface;
+use trails::{in_threes, interface};
 use trails_tests::plain::kinds::{Kind, CENTIMETRES, MILLIMETRES, SILENCES};
 use trails_tests::plain::{Trail, MOST_FIXES};
 use trails_tests::shapes::{dearest, ten_times};
@@ -68,17 +67,21 @@ impl Deep {
     }
 }
 
-/// The part of the process that is started for it: one aging, in a thread with so many bytes of stack.
+/// The part of the process that is started for it: one aging, in a thread with so many bytes of stack. It is the only one
+/// of a list, by days: of all calls that thin, this one has the most functions above the thinning, and a table in some.
 pub fn age_within(name: &str, bytes: &str) -> ExitCode {
     let deep = ALL.iter().find(|deep| deep.name == name);
     let (Some(deep), Ok(bytes)) = (deep, bytes.parse()) else {
         return ExitCode::FAILURE;
     };
-    let (mut record, tolerance) = (deep.record(), deep.kind.times);
+    // at a tolerance of one centimetre
+    let table: Vec<u16> = interface::load(&[0], &[1]).table.numbers().collect();
+    let mut record = deep.record();
     let thread = thread::Builder::new().stack_size(bytes);
-    let aging = thread.spawn(move || interface::age(&mut record, tolerance));
+    let by_days = [interface::by_table(0, 0)];
+    let aging = thread.spawn(move || interface::run(&mut record, &by_days, &table));
     match aging.map(|aging| aging.join()) {
-        Ok(Ok(answer)) if answer.refusal == 0 => ExitCode::SUCCESS,
+        Ok(Ok(run)) if (run.refusal, run.turned_away) == (0, 0) => ExitCode::SUCCESS,
         _ => ExitCode::FAILURE,
     }
 }

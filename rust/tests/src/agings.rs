@@ -6,10 +6,12 @@ use crate::interface::{self, Answer};
 use crate::plain::kinds::{Kind, KINDS};
 use crate::plain::lists::Call;
 use crate::plain::place::{is_silent, Place, Time, FINEST};
+use crate::plain::table::Table;
 use crate::plain::{read, Fix, Trail};
 
 impl Call {
-    /// Any call: small tolerances and the limits of every kind are likelier than others, and some are refused.
+    /// Any call: small tolerances and the limits of every kind are likelier than others, and some are refused, as are
+    /// some tables.
     pub fn any(kind: Kind, random: &mut Random) -> Call {
         let least = random.between(0, 12) as u16;
         let low = kind.times * random.between(0, 300) as u16;
@@ -17,32 +19,23 @@ impl Call {
         let any = random.between(0, 65_535) as u16;
         let top = random.pick(&KINDS).top;
         let edge = random.pick(&[0, 1, top, top + 1, top, top + 1, 65_535]);
-        let days = random.pick(&[0, 1, 2, 6, 7, 29, 30, 89, 90, 65_535]);
+        let table = Table::any(random);
+        let days = table.days(random);
         random.pick(&[
             Call::Tolerance(least),
             Call::Tolerance(low),
             Call::Tolerance(high),
             Call::Tolerance(edge),
             Call::Tolerance(any),
-            Call::Days(days),
-            Call::Days(any),
+            Call::Days(days, table),
+            Call::Days(any, table),
         ])
-    }
-
-    /// The call as the interface's lists have it: below 65,536 a tolerance, and from there on days, whatever is above
-    /// 16 bits.
-    pub fn number(self, random: &mut Random) -> u32 {
-        let some = random.between(1, 65_535) as u32;
-        match self {
-            Call::Tolerance(e) => e.into(),
-            Call::Days(days) => (random.pick(&[1, 2, some, 65_535]) << 16) + u32::from(days),
-        }
     }
 
     fn proved(self, buffer: &mut [u8]) -> Answer {
         match self {
             Call::Tolerance(e) => interface::age(buffer, e),
-            Call::Days(days) => interface::age_by_days(buffer, days),
+            Call::Days(days, table) => interface::age_by_days(buffer, days, &table),
         }
     }
 }

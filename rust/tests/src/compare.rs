@@ -1,23 +1,26 @@
 //! One operation on one lent buffer, by the proved functions and by the plain version: what each answers, and what is
 //! lent afterwards. `draw` draws such cases, `twin` moves one in time, `recast` has one in another kind, `minimise`
-//! makes one smaller, and `table` counts what was met.
+//! makes one smaller, and `met` counts what was met.
 
 pub mod draw;
+pub mod met;
 pub mod minimise;
 pub mod recast;
-pub mod table;
 pub mod twin;
 
 use crate::cases::{kind_of, Random, Settings};
 use crate::columns::Columns;
 use crate::expected;
-use crate::interface::{self, Answer, Crossing, Head, Place, Run, Step, LONGEST_TEXT};
+use crate::interface::LONGEST_TEXT;
+use crate::interface::{self, Answer, Applied, Crossing, Head, Loaded, Place, Run, Step};
 use crate::plain;
 use crate::plain::crossing::{self, Question};
 use crate::plain::kinds::{Kind, CENTIMETRES};
-use crate::plain::lists::{self, Call};
+use crate::plain::lists::{self, Call, List};
 use crate::plain::place::Time;
+use crate::plain::table::Table;
 use crate::questions::Moment;
+use crate::tables::RowColumns;
 
 /// An operation of the interface, with all that it is given besides the buffer.
 #[derive(Clone, Debug, PartialEq, Eq)]
@@ -31,11 +34,15 @@ pub enum Operation {
     Write(Kind, Columns),
     List,
     Age(u16),
-    Days(u16),
-    Run(Vec<u32>),
+    /// for which the buffer is nothing
+    Load(RowColumns),
+    Days(u16, Table),
+    /// what days apply
+    Apply(u16, Table),
+    Run(List),
     Place(Moment),
     Crosses(Question),
-    CrossesAfter(Vec<u32>, Question),
+    CrossesAfter(List, Question),
 }
 
 #[derive(Clone, Debug, PartialEq, Eq)]
@@ -61,6 +68,8 @@ pub enum Reply {
     Steps(Vec<Step>),
     Answer(Answer),
     Length(usize),
+    Loaded(Loaded),
+    Applied(Applied),
     Run(Run),
     Place(Place),
     Crossing(Crossed),
@@ -77,6 +86,8 @@ impl Reply {
             Reply::Crossing(Crossed::Refused(number)) => Some(*number),
             Reply::Crossing(_) => Some(0),
             Reply::Run(run) => Some(run.refusal),
+            Reply::Loaded(loaded) => Some(loaded.refusal),
+            Reply::Applied(applied) => Some(applied.refusal),
             Reply::Length(_) => None,
         }
     }
@@ -168,15 +179,17 @@ pub fn proved(case: &Case) -> Outcome {
             Reply::Length(length)
         }
         Operation::Age(e) => Reply::Answer(interface::age(buffer, *e)),
-        Operation::Days(days) => Reply::Answer(interface::age_by_days(buffer, *days)),
-        Operation::Run(calls) => Reply::Run(interface::run(buffer, calls)),
+        Operation::Load(columns) => Reply::Loaded(interface::load(columns)),
+        Operation::Days(days, by) => Reply::Answer(interface::age_by_days(buffer, *days, by)),
+        Operation::Apply(days, by) => Reply::Applied(interface::days_apply(buffer, *days, by)),
+        Operation::Run(list) => Reply::Run(interface::run(buffer, list)),
         Operation::Place(Moment {
             second,
             thousandths,
         }) => Reply::Place(interface::place(buffer, *second, *thousandths)),
         Operation::Crosses(question) => crossed(interface::crosses(buffer, question)),
-        Operation::CrossesAfter(calls, question) => {
-            crossed(interface::crosses_after(buffer, calls, question))
+        Operation::CrossesAfter(list, question) => {
+            crossed(interface::crosses_after(buffer, list, question))
         }
     };
     Outcome { reply, after, text }
@@ -204,15 +217,16 @@ pub fn plain(case: &Case) -> Outcome {
             Reply::Length(listing.len())
         }
         Operation::Age(e) => Reply::Answer(expected::aging(buffer, Call::Tolerance(*e))),
-        Operation::Days(days) => Reply::Answer(expected::aging(buffer, Call::Days(*days))),
-        Operation::Run(calls) => Reply::Run(expected::run(buffer, calls)),
+        Operation::Load(columns) => Reply::Loaded(expected::load(columns)),
+        Operation::Days(days, by) => Reply::Answer(expected::aging(buffer, Call::Days(*days, *by))),
+        Operation::Apply(days, by) => Reply::Applied(expected::days_apply(buffer, *days, by)),
+        Operation::Run(list) => Reply::Run(expected::run(buffer, list)),
         Operation::Place(asked) => {
             Reply::Place(expected::place(buffer, asked.second, asked.thousandths))
         }
         Operation::Crosses(question) => Reply::Crossing(crossing::crosses(buffer, question).into()),
-        Operation::CrossesAfter(calls, question) => {
-            let calls = Call::all_of(calls);
-            Reply::Crossing(lists::crosses_after(buffer, &calls, question).into())
+        Operation::CrossesAfter(list, question) => {
+            Reply::Crossing(lists::crosses_after(buffer, &list.all(), question).into())
         }
     };
     Outcome { reply, after, text }
@@ -245,9 +259,9 @@ impl Sides<'_> {
 
 /// Draws cases until all are tried or one shows a difference, between the sides, from a twin or from the same of
 /// another kind, which is given back as small as it can be made and still shows that.
-pub fn run(settings: Settings, sides: Sides) -> Result<table::Table, Box<Case>> {
+pub fn run(settings: Settings, sides: Sides) -> Result<met::Met, Box<Case>> {
     let mut random = Random::new(settings.seed);
-    let mut table = table::Table::default();
+    let mut met = met::Met::default();
     let smallest =
         |case, differs: &dyn Fn(&Case) -> bool| Err(Box::new(minimise::minimised(case, differs)));
     for _ in 0..settings.cases {
@@ -261,9 +275,9 @@ pub fn run(settings: Settings, sides: Sides) -> Result<table::Table, Box<Case>> 
         if sides.kinds_differ(&case) {
             return smallest(case, &|case| sides.kinds_differ(case));
         }
-        table.count(&case, made, &outcome.reply);
-        table.twins += twin::shifts(&case).len();
-        table.recast(&case);
+        met.count(&case, made, &outcome.reply);
+        met.twins += twin::shifts(&case).len();
+        met.recast(&case);
     }
-    Ok(table)
+    Ok(met)
 }

@@ -1,11 +1,13 @@
 //! What the plain version answers to each function of the interface, put as the interface puts it.
 
 use crate::columns::Columns;
-use crate::interface::{Answer, Head, Place, Run, Step};
+use crate::interface::{handed, Answer, Applied, Head, Loaded, Place, Run, Step};
 use crate::plain::kinds::Kind;
-use crate::plain::lists::Call;
+use crate::plain::lists::{Call, List};
 use crate::plain::moment::Whereabouts;
-use crate::plain::{self, lists, moment, Fix, Trail};
+use crate::plain::table::Table;
+use crate::plain::{self, lists, moment, thinning, Fix, Trail};
+use crate::tables::RowColumns;
 
 /// A refusal's number, 0 for none, and beside it what is answered where there is none, or nothing.
 fn told<T: Default>(result: Result<T, u8>) -> (u32, T) {
@@ -70,6 +72,21 @@ pub fn aging(lent: &mut [u8], call: Call) -> Answer {
     answer(call.make(lent))
 }
 
+pub fn load(columns: &RowColumns) -> Loaded {
+    let (refusal, table) = told(Table::load(&columns.rows()));
+    let table = handed(&table);
+    Loaded { refusal, table }
+}
+
+pub fn days_apply(lent: &[u8], days: u16, table: &Table) -> Applied {
+    let (refusal, applied) = told(thinning::days_apply(lent, days, table));
+    Applied {
+        refusal,
+        applies: applied.is_some().into(),
+        tolerance: applied.unwrap_or(0).into(),
+    }
+}
+
 pub fn place(lent: &[u8], second: u32, thousandths: u16) -> Place {
     const FITS: &str = "it fits, say the documents";
     let found = |found: Whereabouts| Place {
@@ -84,8 +101,8 @@ pub fn place(lent: &[u8], second: u32, thousandths: u16) -> Place {
     Place { refusal, ..place }
 }
 
-pub fn run(lent: &mut [u8], calls: &[u32]) -> Run {
-    let (refusal, turned_away) = told(lists::run(lent, &Call::all_of(calls)));
+pub fn run(lent: &mut [u8], list: &List) -> Run {
+    let (refusal, turned_away) = told(lists::run(lent, &list.all()));
     Run {
         refusal,
         turned_away,

@@ -2,12 +2,16 @@
 
 use trails::interface as offered;
 
-pub use offered::{age, age_by_days, check, list, place, read, run};
-pub use offered::{Answer, Crossing, Head, Place, Run, Step, LONGEST_TEXT};
+pub use offered::{age, built_in, by_table, check, list, place, read};
+pub use offered::{Answer, Applied, Crossing, Head, Loaded, Place, Row, Run, Step, Table};
+pub use offered::{LONGEST_TEXT, ROWS, TABLE_NUMBERS};
 
 use crate::columns::Columns;
 use crate::plain::crossing::Question;
 use crate::plain::kinds::{Kind, CENTIMETRES, MILLIMETRES};
+use crate::plain::lists::List;
+use crate::plain::table;
+use crate::tables::RowColumns;
 
 pub fn read_all(record: &[u8], columns: &mut Columns) -> Answer {
     let Columns { t, x, y, silence } = columns;
@@ -22,6 +26,31 @@ pub fn write(kind: Kind, columns: &Columns, output: &mut [u8]) -> Answer {
         MILLIMETRES => offered::write_millimetres(t, x, y, output),
         _ => offered::write_silences(t, x, y, silence, output),
     }
+}
+
+pub fn load(columns: &RowColumns) -> Loaded {
+    offered::load(&columns.days, &columns.tolerances)
+}
+
+/// A table as it is handed to the interface.
+pub fn handed(table: &table::Table) -> Table {
+    let row = |&table::Row { day, tolerance }: &table::Row| Row { day, tolerance };
+    Table {
+        count: table.count,
+        rows: table.rows.each_ref().map(row),
+    }
+}
+
+pub fn age_by_days(record: &mut [u8], days: u16, table: &table::Table) -> Answer {
+    offered::age_by_days(record, days, handed(table))
+}
+
+pub fn days_apply(record: &[u8], days: u16, table: &table::Table) -> Applied {
+    offered::days_apply(record, days, handed(table))
+}
+
+pub fn run(record: &mut [u8], list: &List) -> Run {
+    offered::run(record, &list.calls, &list.tables)
 }
 
 /// A question as it is lent to the interface.
@@ -57,6 +86,7 @@ pub fn crosses(record: &[u8], question: &Question) -> Crossing {
     offered::crosses(record, asked(question))
 }
 
-pub fn crosses_after(record: &mut [u8], calls: &[u32], question: &Question) -> Crossing {
-    offered::crosses_after(record, calls, asked(question))
+pub fn crosses_after(record: &mut [u8], list: &List, question: &Question) -> Crossing {
+    let List { calls, tables } = list;
+    offered::crosses_after(record, calls, tables, asked(question))
 }

@@ -15,3 +15,4 @@ pub mod plain;
 pub mod programs;
 pub mod questions;
 pub mod shapes;
+pub mod tables;

@@ -1,14 +1,17 @@
-//! One call of aging, by tolerance or by days: its answer, the record, its mark and the bytes after it.
+//! One call of aging, by tolerance or by days and a table: its answer, the record, its mark and the bytes after it.
 #![forbid(unsafe_code)]
 
 use trails_tests::agings::{stays_near, Buffer};
 use trails_tests::cases::{Cases, Random, Settings, Tally};
 use trails_tests::compare::draw;
+use trails_tests::expected;
+use trails_tests::interface::days_apply;
 use trails_tests::plain::kinds::{Kind, CENTIMETRES, KINDS, MILLIMETRES, SILENCES};
 use trails_tests::plain::lists::Call;
+use trails_tests::plain::table::{Row, Table};
 use trails_tests::plain::thinning::thin;
 use trails_tests::plain::{stretches, Fix, Trail, MOST_FIXES, NEVER};
-use trails_tests::shapes::{trail, Shape, SHAPES};
+use trails_tests::shapes::{every_kind_and_shape, trail, Shape, SHAPES};
 
 /// A run of calls, and how many left all fixes, some inner ones, and the ends only, so that none of these can be
 /// missing unseen.
@@ -51,13 +54,14 @@ impl Run {
         let aged = buffer.trail();
         let name = format!("{}, {call:?}", buffer.name);
         keeps_the_ends(&original.fixes, &aged.fixes, &name);
-        let expected = match (mark, call.applies(kind)) {
+        let applied = call.applies(kind).expect("it isn't refused");
+        let expected = match (mark, applied) {
             (mark, None) => mark,
             (NEVER, Some(e)) => e,
             (mark, Some(e)) => mark.max(e),
         };
         assert_eq!(aged.mark, expected, "{name}");
-        let e = call.applies(kind).unwrap_or(0);
+        let e = applied.unwrap_or(0);
         stays_near(&original.fixes, &aged.fixes, e, &name, &mut self.random);
         let kept = aged.fixes.len();
         let which = if kept == n {
@@ -77,7 +81,7 @@ impl Run {
     fn accepted_call(&mut self, kind: Kind) -> Call {
         loop {
             let call = Call::any(kind, &mut self.random);
-            if !is_high(call, kind) {
+            if call.applies(kind).is_ok() {
                 return call;
             }
         }
@@ -97,11 +101,6 @@ fn keeps_the_ends(original: &[Fix], aged: &[Fix], name: &str) {
     };
     assert_eq!(ends(aged), ends(original), "{name}");
     assert!(aged.iter().all(|fix| original.contains(fix)), "{name}");
-}
-
-/// Whether check 10 turns it away.
-fn is_high(call: Call, kind: Kind) -> bool {
-    matches!(call, Call::Tolerance(e) if e > kind.top)
 }
 
 #[test]
@@ -127,7 +126,7 @@ fn the_longest_trails_are_aged_as_the_plain_version_does() {
                 for e in [0, 1, 12, 10 * kind.times, 400, kind.top] {
                     run.case(kind, shape, n, Call::Tolerance(e));
                 }
-                run.case(kind, shape, n, Call::Days(30));
+                run.case(kind, shape, n, Call::Days(30, Table::built_in()));
             }
         }
         run.expect_all_sorts();
@@ -146,10 +145,10 @@ fn each_refusal_is_given_in_order_and_changes_no_byte() {
         let before = buffer.bytes.clone();
         let answer = buffer.age(call);
         let name = format!("{}, {call:?}", buffer.name);
-        // check 10 comes after all others, and only agings by tolerance make it
+        // the call's own checks come after all others: 10 by tolerance, and 22 and 23 by days
         if let Some(known) = case.known {
-            let high = known == 0 && is_high(call, kind);
-            let known = if high { 10 } else { known };
+            let own = call.applies(kind).err().unwrap_or(0);
+            let known = if known == 0 { own } else { known };
             assert_eq!(answer.refusal, known.into(), "{name}");
         }
         if answer.refusal != 0 {
@@ -157,11 +156,11 @@ fn each_refusal_is_given_in_order_and_changes_no_byte() {
         }
         match call {
             Call::Tolerance(_) => by_tolerance.count(kind, answer.refusal),
-            Call::Days(_) => by_days.count(kind, answer.refusal),
+            Call::Days(..) => by_days.count(kind, answer.refusal),
         }
     }
     by_tolerance.expect("aging", &[1, 2, 3, 4, 5, 6, 7, 8, 9, 20, 10]);
-    by_days.expect("aging by days", &[1, 2, 3, 4, 5, 6, 7, 8, 9, 20]);
+    by_days.expect("aging by days", &[1, 2, 3, 4, 5, 6, 7, 8, 9, 20, 22, 23]);
 }
 
 #[test]
@@ -187,7 +186,7 @@ fn the_limits_of_the_tolerance() {
     }
 }
 
-/// The first and the last day of each row of the table, and what applies then to each kind.
+/// The first and the last day of each row of the built-in table, and what applies then to each kind.
 const DAYS: [(u16, Option<[u16; 3]>); 10] = [
     (0, None),
     (1, None),
@@ -201,23 +200,108 @@ const DAYS: [(u16, Option<[u16; 3]>); 10] = [
     (65_535, Some([400, 4_000, 400])),
 ];
 
+/// A hall's own table at every limit: rows on the first day and on the last, a row of tolerance 0 and two of one
+/// tolerance, and, ten times as much in millimetres, up to 60,000 and past it.
+const HALL: [(u16, u16); 7] = [
+    (0, 0),
+    (1, 12),
+    (2, 12),
+    (40, 6_000),
+    (50, 6_001),
+    (365, 32_000),
+    (65_535, 32_000),
+];
+
+/// Days of that table, as those of the built-in one.
+const HALL_DAYS: [(u16, Option<[u16; 3]>); 10] = [
+    (0, Some([0, 0, 0])),
+    (1, Some([12, 120, 12])),
+    (2, Some([12, 120, 12])),
+    (39, Some([12, 120, 12])),
+    (40, Some([6_000, 60_000, 6_000])),
+    (49, Some([6_000, 60_000, 6_000])),
+    (50, Some([6_001, 60_000, 6_001])),
+    (365, Some([32_000, 60_000, 32_000])),
+    (65_534, Some([32_000, 60_000, 32_000])),
+    (65_535, Some([32_000, 60_000, 32_000])),
+];
+
 #[test]
 fn days_are_the_tolerance_of_the_table_or_nothing() {
     let mut run = Run::new();
-    for (k, kind) in KINDS.into_iter().enumerate() {
-        for shape in SHAPES {
-            let trail = trail(kind, shape, 300, &mut run.random);
-            for (days, applies) in DAYS {
+    let hall = Table::of(&HALL.map(Row::from));
+    for (kind, shape) in every_kind_and_shape() {
+        let trail = trail(kind, shape, 300, &mut run.random);
+        for (table, all) in [(Table::built_in(), DAYS), (hall, HALL_DAYS)] {
+            for (days, applies) in all {
+                let of_kind = |of: [u16; 3]| of[usize::from(kind.code) - 1];
                 let mut buffer = run.buffer(shape, &trail);
-                let mut other = Buffer::new(buffer.name.clone(), buffer.bytes.clone());
-                let answer = buffer.age(Call::Days(days));
-                let name = format!("{kind}, {shape:?}, {days} days");
-                match applies.map(|of| of[k]) {
-                    None => assert_eq!((answer.refusal, answer.value), (0, 0), "{name}"),
-                    Some(e) => assert_eq!(answer, other.age(Call::Tolerance(e)), "{name}"),
-                }
-                assert_eq!(buffer.bytes, other.bytes, "{name}");
+                days_are(days, &table, applies.map(of_kind), &mut buffer);
             }
+        }
+    }
+}
+
+/// Aging by these days is aging by this tolerance, or nothing, and what would be applied is told before.
+fn days_are(days: u16, table: &Table, applies: Option<u16>, buffer: &mut Buffer) {
+    let name = format!("{}, {days} days", buffer.name);
+    let mut other = Buffer::new(name.clone(), buffer.bytes.clone());
+    let told = days_apply(&buffer.bytes, days, table);
+    let numbers = (told.refusal, told.applies, told.tolerance);
+    let e = applies.unwrap_or(0).into();
+    assert_eq!(numbers, (0, applies.is_some().into(), e), "{name}");
+    assert_eq!(buffer.bytes, other.bytes, "{name}");
+    let answer = buffer.age(Call::Days(days, *table));
+    match applies {
+        None => assert_eq!((answer.refusal, answer.value), (0, 0), "{name}"),
+        Some(e) => assert_eq!(answer, other.age(Call::Tolerance(e)), "{name}"),
+    }
+    assert_eq!(buffer.bytes, other.bytes, "{name}");
+}
+
+/// What would be applied is told, or refused, as the aging is, and changes no byte.
+#[test]
+fn what_days_apply_is_told_of_every_record() {
+    let settings = Settings::get();
+    let mut random = Random::new(settings.seed);
+    let mut tally = Tally::default();
+    for case in Cases::all(settings) {
+        let table = Table::any(&mut random);
+        let days = table.days(&mut random);
+        let before = case.bytes.clone();
+        let told = days_apply(&case.bytes, days, &table);
+        let name = format!("{}, {days} days, {table:?}", case.name);
+        assert_eq!(told, expected::days_apply(&before, days, &table), "{name}");
+        assert!(case.bytes == before, "{name}: other bytes");
+        let mut aged = Buffer::new(name.clone(), case.bytes.clone());
+        let answer = aged.age(Call::Days(days, table));
+        assert_eq!(told.refusal, answer.refusal, "{name}");
+        tally.count(case.kind(), told.refusal);
+    }
+    tally.expect("what days apply", &[1, 2, 3, 4, 5, 6, 7, 8, 9, 20, 22, 23]);
+}
+
+/// A struct of somebody's own making: of every count, with rows in all its room that are good. Up to 32 they are the
+/// table, and past that nothing is looked at.
+#[test]
+fn a_table_of_every_count_is_aged_by_or_refused() {
+    let mut run = Run::new();
+    let rows: Vec<Row> = (0..32).map(|k| Row::from((k, 10 + k))).collect();
+    for kind in KINDS {
+        let trail = trail(kind, Shape::Wild, 20, &mut run.random);
+        for count in (0..=70).chain([256, 257, 288, 32_768, 65_534, 65_535]) {
+            let table = Table {
+                count,
+                ..Table::of(&rows)
+            };
+            let mut buffer = run.buffer(Shape::Wild, &trail);
+            let answer = buffer.age(Call::Days(100, table));
+            let (refusal, mark) = match count {
+                1..=32 => (0, kind.times * (9 + count)),
+                _ => (22, NEVER),
+            };
+            assert_eq!(answer.refusal, refusal, "{kind}, {count} rows");
+            assert_eq!(buffer.trail().mark, mark, "{kind}, {count} rows");
         }
     }
 }

@@ -7,8 +7,9 @@ use trails_tests::cases::{kind_of, Random, Settings, Tally};
 use trails_tests::interface::{self, crosses_after, run};
 use trails_tests::plain::crossing::{crosses, telling_times, Area, Question, Window};
 use trails_tests::plain::kinds::{Kind, CENTIMETRES, KINDS, MILLIMETRES, SILENCES};
-use trails_tests::plain::lists::{self, Book, Call};
+use trails_tests::plain::lists::{self, Book, Call, List};
 use trails_tests::plain::place::{is_silent, Place, Time};
+use trails_tests::plain::table::{Row, Table};
 use trails_tests::plain::{Fix, Trail, MOST_FIXES};
 use trails_tests::questions::{agrees, refused_in_order, told, Asked as _};
 use trails_tests::shapes::{every_kind_and_shape, ten_times, trail, SHAPES};
@@ -33,21 +34,16 @@ impl Run {
         }
     }
 
-    fn numbers(&mut self, calls: &[Call]) -> Vec<u32> {
-        let number = |call: &Call| call.number(&mut self.random);
-        calls.iter().map(number).collect()
-    }
-
     /// Makes the calls and asks, and holds the claim to what came of it.
     fn case(&mut self, name: &str, original: &Trail, calls: &[Call], question: &Question) {
         let name = format!("{name}, {calls:?}, {question:?}");
         let Trail { kind, fixes, .. } = original;
-        let numbers = self.numbers(calls);
+        let list = List::lending(calls, &mut self.random);
         let mut buffer = Buffer::of(name, original, &mut self.random);
         let before = buffer.bytes.clone();
-        let answer = crosses_after(&mut buffer.bytes, &numbers, question);
+        let answer = crosses_after(&mut buffer.bytes, &list, question);
         let mut aged = Buffer::new(buffer.name.clone(), before.clone());
-        let run = run(&mut aged.bytes, &numbers);
+        let run = run(&mut aged.bytes, &list);
         assert_eq!(run, tells_the_calls(*kind, calls), "{}", buffer.name);
         let book = leaves_what_the_book_says(&aged, &before, original, calls);
         // refused or not, the question is of the trail before as it is of the trail after
@@ -89,10 +85,10 @@ impl Run {
 
 /// Of an accepted record: none refused it, and so many calls were turned away.
 fn tells_the_calls(kind: Kind, calls: &[Call]) -> interface::Run {
-    let high = |call: &&Call| matches!(call, Call::Tolerance(e) if *e > kind.top);
+    let refused = |call: &&Call| call.applies(kind).is_err();
     interface::Run {
         refusal: 0,
-        turned_away: calls.iter().filter(high).count(),
+        turned_away: calls.iter().filter(refused).count(),
     }
 }
 
@@ -182,9 +178,16 @@ fn small_tolerances(kind: Kind) {
         let shape = SHAPES[k % SHAPES.len()];
         let original = trail(kind, shape, 40, &mut run.random);
         let most = i64::from(40 * kind.times);
-        let mut small = || Call::Tolerance(run.random.between(0, most) as u16);
-        let high = Call::Tolerance(kind.top + 1);
-        let calls = [small(), Call::Days(1), small(), high];
+        let mut small = |most| run.random.between(0, most) as u16;
+        let row = Row::from((5, small(40)));
+        let calls = [
+            Call::Tolerance(small(most)),
+            Call::Days(4, Table::of(&[row])),
+            Call::Days(5, Table::of(&[row])),
+            Call::Days(5, Table::default()),
+            Call::Tolerance(small(most)),
+            Call::Tolerance(kind.top + 1),
+        ];
         let question = run.question(&original);
         let name = format!("seed {}: {kind}, {shape:?}", settings.seed);
         run.case(&name, &original, &calls, &question);
@@ -197,7 +200,7 @@ fn small_tolerances(kind: Kind) {
 /// Agings whose greatest tolerance is 50 centimetres.
 fn bound(kind: Kind) -> [Call; 3] {
     let [one, other] = [12, 50].map(|e| Call::Tolerance(e * kind.times));
-    [one, other, Call::Days(7)]
+    [one, other, Call::Days(7, Table::built_in())]
 }
 
 /// The trail of these fixes, and in millimetres of the same.
@@ -283,9 +286,10 @@ fn the_longest_trails_and_a_long_list() {
     for (kind, shape) in every_kind_and_shape() {
         let original = trail(kind, shape, MOST_FIXES, &mut run.random);
         let mut long: Vec<Call> = (0..20).map(|k| Call::Tolerance(k % 7)).collect();
-        long.push(Call::Days(65_535));
+        long.push(Call::Days(65_535, Table::built_in()));
         let name = format!("{kind}, {shape:?}, the longest");
-        for calls in [&[][..], &[Call::Days(0)], &[Call::Tolerance(3)], &long] {
+        let day_0 = Call::Days(0, Table::built_in());
+        for calls in [&[][..], &[day_0], &[Call::Tolerance(3)], &long] {
             let question = run.question(&original);
             run.case(&name, &original, calls, &question);
         }
@@ -295,13 +299,18 @@ fn the_longest_trails_and_a_long_list() {
 /// A record that is turned away, or a question: no call of the list is made, and no byte is changed.
 #[test]
 fn what_is_refused_is_left_as_it_was() {
-    let numbers = [12, 32_001, 65_536 + 7];
-    let calls = Call::all_of(&numbers);
+    let calls = [
+        Call::Tolerance(12),
+        Call::Tolerance(32_001),
+        Call::Days(7, Table::built_in()),
+        Call::Days(7, Table::default()),
+    ];
+    let list = List::lending(&calls, &mut Random::new(0));
     let mut tally = Tally::default();
     let faults: [&[u8]; 4] = [&[], &[13], &[14], &[14, 13]];
     refused_in_order(&faults, &mut tally, |record, question: &Question, name| {
         let (mut bytes, mut plain) = (record.to_vec(), record.to_vec());
-        let answer = crosses_after(&mut bytes, &numbers, question);
+        let answer = crosses_after(&mut bytes, &list, question);
         let name = format!("{name}, {question:?}");
         let expected = lists::crosses_after(&mut plain, &calls, question);
         agrees(kind_of(record, CENTIMETRES), answer, expected, &name);

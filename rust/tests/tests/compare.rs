@@ -9,9 +9,12 @@ use trails_tests::compare::{Operation, Sides};
 use trails_tests::interface::Crossing;
 use trails_tests::plain::crossing::{Area, Question, Window};
 use trails_tests::plain::kinds::{Kind, CENTIMETRES, MILLIMETRES, SILENCES};
+use trails_tests::plain::lists::List;
+use trails_tests::plain::table::{Row, Table};
 use trails_tests::plain::thinning::thin;
 use trails_tests::plain::{read, Fix, Trail, NEVER};
 use trails_tests::questions::Moment;
+use trails_tests::tables::RowColumns;
 
 const SETTINGS: Settings = Settings {
     seed: 8,
@@ -47,7 +50,7 @@ fn faulty(side: fn(&Case) -> Outcome, spoil: fn(&Case, &mut Outcome)) -> impl Fn
 
 fn shown_by(sides: Sides) -> Case {
     match run(SETTINGS, sides) {
-        Ok(table) => panic!("no difference was found:\n{table}"),
+        Ok(met) => panic!("no difference was found:\n{met}"),
         Err(case) => *case,
     }
 }
@@ -66,10 +69,10 @@ fn there_is_no_difference_and_nothing_is_missing() {
         proved: &proved,
         plain: &plain,
     };
-    let table = run(SETTINGS, sides).unwrap_or_else(|case| panic!("{case:?}"));
-    println!("{table}");
-    assert!(table.missing().is_empty(), "{:?}", table.missing());
-    assert!(table.to_string().ends_with("30000 cases, 0 differences"));
+    let met = run(SETTINGS, sides).unwrap_or_else(|case| panic!("{case:?}"));
+    println!("{met}");
+    assert!(met.missing().is_empty(), "{:?}", met.missing());
+    assert!(met.to_string().ends_with("30000 cases, 0 differences"));
 }
 
 #[test]
@@ -136,19 +139,19 @@ fn a_changed_byte_after_the_record_is_shown_with_that_byte() {
 #[test]
 fn a_list_is_shown_with_the_calls_that_matter() {
     let case = shown(|case, outcome| {
-        if let Operation::Run(calls) = &case.operation {
+        if let Operation::Run(List { calls, .. }) = &case.operation {
             let days = calls.iter().any(|&call| call >= 65_536);
             let high = calls.iter().any(|&call| (10..65_536).contains(&call));
             if days && high {
-                outcome.after.operation = Operation::Run(Vec::new());
+                outcome.after.operation = Operation::Run(List::default());
             }
         }
     });
-    let Operation::Run(mut calls) = case.operation else {
+    let Operation::Run(List { mut calls, tables }) = case.operation else {
         panic!("{case:?}");
     };
     calls.sort();
-    assert_eq!(calls, [10, 65_536]);
+    assert_eq!((calls, tables), (vec![10, 65_536], Vec::new()));
     // a head is never taken apart
     assert!(case.buffer.len() <= 10, "{:?}", case.buffer);
 }
@@ -160,9 +163,88 @@ fn a_list_whose_count_is_wrong_is_shown_with_the_calls_that_are_counted() {
             run.turned_away += usize::from(run.turned_away >= 2);
         }
     });
-    assert_eq!(case.operation, Operation::Run(vec![32_001, 32_001]));
+    let list = List::of_tolerances(&[32_001, 32_001]);
+    assert_eq!(case.operation, Operation::Run(list));
     assert_eq!(case.buffer, record(0, &[(0, 0, 0)]));
 }
+
+// ---- tables
+
+/// A count that there is no room for is shown as the least of them.
+#[test]
+fn a_table_of_33_rows_that_is_taken_is_shown_by_its_count() {
+    let case = shown(|case, outcome| {
+        let (Operation::Days(_, table), Reply::Answer(answer)) =
+            (&case.operation, &mut outcome.reply)
+        else {
+            return;
+        };
+        if answer.refusal == 22 && table.count > 32 {
+            answer.refusal = 0;
+        }
+    });
+    let table = Table {
+        count: 33,
+        ..Table::default()
+    };
+    assert_eq!(case.operation, Operation::Days(0, table));
+    assert_eq!(case.buffer, record(0, &[(0, 0, 0)]));
+}
+
+#[test]
+fn a_row_that_gives_60000_millimetres_is_shown_alone() {
+    let case = shown(|case, outcome| {
+        if let (Operation::Apply(..), Reply::Applied(applied)) =
+            (&case.operation, &mut outcome.reply)
+        {
+            applied.tolerance += u32::from(applied.tolerance == 60_000);
+        }
+    });
+    let row = Row::from((0, 6_000));
+    assert_eq!(case.operation, Operation::Apply(0, Table::of(&[row])));
+    assert_eq!(case.buffer, record_of(MILLIMETRES, 0, &[(0, 0, 0)]));
+}
+
+/// Of rows to load, those that matter.
+#[test]
+fn equal_days_that_are_loaded_are_shown_by_two_rows() {
+    let case = shown(|case, outcome| {
+        let (Operation::Load(columns), Reply::Loaded(loaded)) =
+            (&case.operation, &mut outcome.reply)
+        else {
+            return;
+        };
+        let rows = columns.rows();
+        let equal = rows.windows(2).any(|pair| pair[0].day == pair[1].day);
+        loaded.refusal %= if equal { 23 } else { 24 };
+    });
+    let rows = [Row::default(), Row::default()];
+    assert_eq!(case.operation, Operation::Load(RowColumns::of(&rows)));
+    assert!(case.buffer.is_empty());
+}
+
+/// Of a list's tables, those that matter: the first, and the numbers that it takes to be one.
+#[test]
+fn a_list_that_takes_the_wrong_table_is_shown_with_it() {
+    let case = shown(|_, outcome| {
+        if let (Operation::Run(list), Reply::Run(run)) =
+            (&outcome.after.operation, &mut outcome.reply)
+        {
+            let by_first = list.calls.iter().any(|call| call >> 16 == 1);
+            let accepted = list.table(0).checked().is_ok();
+            run.turned_away += usize::from(by_first && accepted && run.refusal == 0);
+        }
+    });
+    let table = Table::of(&[Row::default()]);
+    let list = List {
+        calls: vec![65_536],
+        tables: table.numbers(),
+    };
+    assert_eq!(case.operation, Operation::Run(list));
+    assert_eq!(case.buffer, record(0, &[(0, 0, 0)]));
+}
+
+// ---- kinds
 
 /// What only records in millimetres can show is shown by one: at the least of the lengths that centimetres can't have.
 #[test]
@@ -461,7 +543,7 @@ fn counts_silences(side: fn(&Case) -> Outcome) -> impl Fn(&Case) -> Outcome {
     move |case| {
         let mut outcome = side(case);
         let silent = read(&case.buffer).is_ok_and(|trail| trail.kind == SILENCES);
-        if let (true, Operation::Days(_), Reply::Answer(answer)) =
+        if let (true, Operation::Days(..), Reply::Answer(answer)) =
             (silent, &case.operation, &mut outcome.reply)
         {
             answer.value += 1;
@@ -478,6 +560,6 @@ fn what_both_sides_do_to_silences_is_shown_by_the_same_without() {
         proved: &one,
         plain: &other,
     });
-    assert_eq!(case.operation, Operation::Days(0));
+    assert_eq!(case.operation, Operation::Days(0, Table::default()));
     assert_eq!(case.buffer, record(0, &[(0, 0, 0)]));
 }

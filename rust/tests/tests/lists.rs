@@ -5,10 +5,11 @@
 use trails_tests::agings::{some_calls, stays_near, Buffer};
 use trails_tests::cases::{Cases, Random, Settings, Tally};
 use trails_tests::expected;
-use trails_tests::interface::run;
+use trails_tests::interface::{by_table, run};
 use trails_tests::plain::kinds::KINDS;
-use trails_tests::plain::lists::{Book, Call};
-use trails_tests::plain::{Trail, MOST_FIXES};
+use trails_tests::plain::lists::{Book, Call, List};
+use trails_tests::plain::table::{Row, Table};
+use trails_tests::plain::{Trail, MOST_FIXES, NEVER};
 use trails_tests::shapes::{every_kind_and_shape, trail, SHAPES};
 
 /// Makes the calls one after the other on one buffer. The claim is about whole lists, and each beginning of a list
@@ -43,18 +44,31 @@ fn any_list_leaves_the_original_thinned_at_the_greatest() {
     }
 }
 
+/// A hall's own table, which on day 7 has more than the built-in one.
+fn hall() -> Table {
+    Table::of(&[(5, 40), (30, 60)].map(Row::from))
+}
+
+/// One that is refused.
+fn falling() -> Table {
+    Table::of(&[(5, 60), (30, 40)].map(Row::from))
+}
+
 #[test]
 fn so_do_lists_on_the_longest_trails() {
     let mut random = Random::new(Settings::get().seed);
+    let built_in = Table::built_in();
     let calls = [
-        Call::Days(2),
+        Call::Days(2, built_in),
         Call::Tolerance(3),
         Call::Tolerance(32_001),
-        Call::Days(30),
-        Call::Days(1),
+        Call::Days(30, hall()),
+        Call::Days(30, built_in),
+        Call::Days(1, built_in),
         Call::Tolerance(60),
         Call::Tolerance(60_001),
-        Call::Days(90),
+        Call::Days(30, falling()),
+        Call::Days(90, built_in),
     ];
     for (kind, shape) in every_kind_and_shape() {
         let original = trail(kind, shape, MOST_FIXES, &mut random);
@@ -84,10 +98,10 @@ fn every_order_of_the_same_calls_is_a_list() {
     let mut random = Random::new(Settings::get().seed);
     let calls = [
         Call::Tolerance(5),
-        Call::Days(7),
+        Call::Days(7, Table::built_in()),
         Call::Tolerance(32_001),
-        Call::Days(1),
-        Call::Tolerance(25),
+        Call::Days(7, hall()),
+        Call::Days(60, falling()),
     ];
     for (kind, shape) in every_kind_and_shape() {
         let original = trail(kind, shape, 100, &mut random);
@@ -107,11 +121,12 @@ fn a_list_as_one_call_tells_what_became_of_it() {
     let mut most = 0;
     for case in Cases::all(settings) {
         let calls = some_calls(case.kind(), &mut random);
-        let numbers: Vec<u32> = calls.iter().map(|call| call.number(&mut random)).collect();
+        let list = List::lending(&calls, &mut random);
+        assert_eq!(list.all(), calls, "{}", case.name);
         let name = format!("{}, {calls:?}", case.name);
         let (mut bytes, mut plain) = (case.bytes.clone(), case.bytes.clone());
-        let told = run(&mut bytes, &numbers);
-        assert_eq!(told, expected::run(&mut plain, &numbers), "{name}");
+        let told = run(&mut bytes, &list);
+        assert_eq!(told, expected::run(&mut plain, &list), "{name}");
         assert!(bytes == plain, "{name}: other bytes");
         if let Some(known) = case.known {
             assert_eq!(told.refusal, known.into(), "{name}");
@@ -125,4 +140,39 @@ fn a_list_as_one_call_tells_what_became_of_it() {
     tally.expect("list", &[1, 2, 3, 4, 5, 6, 7, 8, 9, 20]);
     println!("list: up to {most} calls turned away");
     assert!(most > 1);
+}
+
+/// A call of every number of a table: by those of which all 65 numbers are lent, and turned away by those of which one is
+/// missing or all are.
+#[test]
+fn tables_of_which_a_number_is_missing_have_no_rows() {
+    let mut random = Random::new(Settings::get().seed);
+    let original = trail(KINDS[0], SHAPES[0], 40, &mut random);
+    let lent = [hall(), Table::built_in(), hall()].map(|table| table.numbers());
+    let lent = lent.concat();
+    for many in [0, 1, 64, 65, 66, 129, 130, 131, 194, 195] {
+        for k in [0, 1, 2, 3, 65_535, 65_536, (1 << 32), (1 << 48) - 2] {
+            let list = List {
+                calls: vec![by_table(k, 7)],
+                tables: lent[..many].to_vec(),
+            };
+            let mut buffer =
+                Buffer::of(format!("{many} numbers, table {k}"), &original, &mut random);
+            let told = run(&mut buffer.bytes, &list);
+            let there = 65 * (k + 1) <= many;
+            let away = usize::from(!there);
+            assert_eq!(
+                (told.refusal, told.turned_away),
+                (0, away),
+                "{}",
+                buffer.name
+            );
+            let mark = match k {
+                _ if !there => NEVER,
+                1 => 25,
+                _ => 40,
+            };
+            assert_eq!(buffer.trail().mark, mark, "{}", buffer.name);
+        }
+    }
 }

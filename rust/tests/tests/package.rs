@@ -3,10 +3,12 @@
 #![forbid(unsafe_code)]
 
 use trails::{Aging, AnyFix, Area, Fix, Fixes, MillimetreFix, OfKind, SilenceFix};
-use trails::{Kind as Offered, Moment, Refusal, Unit, Window};
+use trails::{Kind as Offered, Moment, Refusal, Row, Table, Unit, Window};
 use trails_tests::cases::{Case, Cases, Random, Settings};
 use trails_tests::plain::kinds::{Kind, CENTIMETRES, KINDS, MILLIMETRES};
-use trails_tests::plain::{self, crossing, moment, thinning};
+use trails_tests::plain::lists::Call;
+use trails_tests::plain::{self, crossing, moment, table};
+use trails_tests::tables::RowColumns;
 
 fn cases() -> Vec<Case> {
     Cases::all(Settings {
@@ -42,7 +44,7 @@ fn kinds_have_their_numbers() {
 }
 
 fn number<T>(answer: Result<T, Refusal>) -> Result<T, u8> {
-    answer.map_err(|refusal| u8::try_from(refusal.number()).expect("at most 21"))
+    answer.map_err(|refusal| u8::try_from(refusal.number()).expect("at most 23"))
 }
 
 fn any(fix: &plain::Fix) -> AnyFix {
@@ -201,11 +203,33 @@ fn the_last_fix_is_followed_by_no_silence() {
     assert_eq!([at(5, 1), at(8, 999)], [Err(Refusal::InSilence); 2]);
 }
 
-fn plainly(aging: Aging, buffer: &mut [u8]) -> Result<u32, u8> {
-    match aging {
-        Aging::Tolerance(e) => thinning::age(buffer, e),
-        Aging::Days(days) => thinning::age_by_days(buffer, days),
+/// The rows of a table as the package has them.
+fn rows(of: &[table::Row]) -> Vec<Row> {
+    let row = |&table::Row { day, tolerance }: &table::Row| Row { day, tolerance };
+    of.iter().map(row).collect()
+}
+
+#[test]
+fn tables_are_loaded() {
+    let mut random = Random::new(10);
+    for _ in 0..3_000 {
+        let lent = RowColumns::any(&mut random).rows();
+        let loaded = Table::load(&rows(&lent)).map(|table| table.rows().to_vec());
+        let expected = table::Table::load(&lent).map(|_| rows(&lent));
+        assert_eq!(number(loaded), expected, "{lent:?}");
     }
+    let built_in = table::Table::built_in();
+    let built_in = built_in.checked().expect("it is accepted");
+    assert_eq!(Table::built_in().rows(), rows(built_in));
+    // what loading makes of its rows is the built-in one itself
+    assert_eq!(Table::load(&rows(built_in)), Ok(Table::built_in()));
+}
+
+/// A good table, as the package and as the plain version has it.
+fn some_table(random: &mut Random) -> (Table, table::Table) {
+    let plain = table::Table::good(random);
+    let table = Table::load(&rows(plain.checked().expect("it is good")));
+    (table.expect("it is good"), plain)
 }
 
 #[test]
@@ -214,33 +238,51 @@ fn records_are_aged() {
     for case in cases() {
         let e = random.between(0, 300) as u16;
         let days = random.between(0, 100) as u16;
-        for aging in [
-            Aging::Tolerance(e),
-            Aging::Tolerance(32_001),
-            Aging::Tolerance(60_001),
-            Aging::Days(days),
+        let (table, plain) = some_table(&mut random);
+        for (aging, call) in [
+            (Aging::Tolerance(e), Call::Tolerance(e)),
+            (Aging::Tolerance(32_001), Call::Tolerance(32_001)),
+            (Aging::Tolerance(60_001), Call::Tolerance(60_001)),
+            (Aging::Days(days, table), Call::Days(days, plain)),
         ] {
             let (mut aged, mut expected) = (case.bytes.clone(), case.bytes.clone());
             let answer = number(aging.apply(&mut aged));
-            assert_eq!(answer, plainly(aging, &mut expected), "{}", case.name);
+            assert_eq!(answer, call.make(&mut expected), "{}", case.name);
             assert!(aged == expected, "{}, {aging:?}", case.name);
         }
     }
 }
 
+/// A table that has rows above what millimetres have.
+fn hall() -> Table {
+    let rows = [(0, 0), (3, 12), (40, 6_000), (50, 6_001), (65_535, 32_000)];
+    let rows = rows.map(|(day, tolerance)| Row { day, tolerance });
+    Table::load(&rows).expect("it is good")
+}
+
+/// What an aging says that it applies is the mark that it leaves, and it is refused as the aging is.
 #[test]
-fn agings_apply_what_the_table_says() {
+fn agings_apply_what_they_say() {
     let fixes = vec![plain::Fix::from((0, 0, 0))];
     for kind in KINDS {
         let record = plain::Trail::never_thinned(kind, fixes.clone()).bytes();
-        let tolerances = (0..=u16::MAX).map(Aging::Tolerance);
-        for aging in tolerances.chain((0..=u16::MAX).map(Aging::Days)) {
+        let of_each = |n| {
+            let days = [Table::built_in(), hall()].map(|table| Aging::Days(n, table));
+            [Aging::Tolerance(n), days[0], days[1]]
+        };
+        for aging in (0..=u16::MAX).flat_map(of_each) {
             let mut aged = record.clone();
-            // a refused aging leaves the record marked never, as one that applies nothing does
-            let _ = aging.apply(&mut aged);
+            let answer = aging.apply(&mut aged);
             let mark = trails::check(&aged).expect("a record").mark;
-            let applies = aging.applies(offered(kind).unit());
-            assert_eq!(applies, mark, "{kind}, {aging:?}");
+            let applies = aging.applies(&record);
+            assert_eq!(applies, answer.map(|_| mark), "{kind}, {aging:?}");
+        }
+    }
+    for case in cases() {
+        for aging in [Aging::Tolerance(60_001), Aging::Days(40, hall())] {
+            let refused = aging.apply(&mut case.bytes.clone()).err();
+            let applies = aging.applies(&case.bytes);
+            assert_eq!(applies.err(), refused, "{}, {aging:?}", case.name);
         }
     }
 }
@@ -305,16 +347,18 @@ fn crossings_are_told_before_and_after_agings() {
 
 fn after_a_list(case: &Case, area: Area, window: Window) {
     let list = [
-        Aging::Days(7),
+        Aging::Days(7, Table::built_in()),
         Aging::Tolerance(60_001),
+        Aging::Days(3, hall()),
         Aging::Tolerance(9),
+        Aging::Days(30, Table::built_in()),
     ];
     let mut in_turn = case.bytes.clone();
     let answers = list.map(|aging| aging.apply(&mut in_turn));
     let mut unasked = case.bytes.clone();
     let told = trails::run(&mut unasked, &list);
     assert!(unasked == in_turn, "{}", case.name);
-    // one of the three is turned away, if not the record
+    // one of them is turned away, if not the record
     assert_eq!(told, answers[0].map(|_| 1), "{}", case.name);
     let mut asked = case.bytes.clone();
     let answer = trails::crosses_after(&mut asked, &list, area, window);

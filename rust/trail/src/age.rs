@@ -10,19 +10,19 @@ use crate::failure::{Failure, Status};
 use crate::json::Json;
 use crate::store::{store, Locked};
 use crate::trail::refused;
-use crate::{files, output, words};
+use crate::{files, output, table, words};
 
 pub const COMMAND: Command = Command {
     name: "age",
     help: HELP,
-    options: &["--tolerance", "--days", "-o", "--json"],
+    options: &["--tolerance", "--days", "--table", "-o", "--json"],
     run,
 };
 
 const HELP: &str = "\
 usage: trail age --tolerance E [--json] FILE...
-       trail age --days D [--json] FILE...
-       trail age (--tolerance E | --days D) [--json] FILE -o OUT
+       trail age --days D [--table FILE] [--json] FILE...
+       trail age (--tolerance E | --days D [--table FILE]) [--json] FILE -o OUT
 
 Thins each trail and puts it in its file's place: the new record, and what
 followed the old one. The fixes that were thinned away are gone, and the file
@@ -40,9 +40,13 @@ Of a file with several names only the given one is aged.
 
   --tolerance E  the tolerance in each trail's own unit: 0 to 32,000 cm, or
                  0 to 60,000 mm
-  --days D       the tolerance of a table: from day 2, 10 cm; from day 7, 25;
-                 from day 30, 100; from day 90, 400; days 0 and 1 change
-                 nothing
+  --days D       the tolerance that a table has for day D: that of its last row
+                 whose day isn't above D. Before its first row nothing is
+                 changed. Without --table it is the built-in one, which
+                 'trail table' prints
+  --table FILE   take this table, a hall's own, in place of the built-in one;
+                 'trail table' says what it may be, and checks it. It is loaded
+                 before any trail is looked at
   -o OUT         store the aged trail there and leave FILE, which may then be
                  '-', the standard input. If OUT is '-', the standard output,
                  the answer is on standard error
@@ -100,32 +104,63 @@ fn age_into(name: &OsStr, aging: Aging, to: &OsStr) -> Result<Aged, Failure> {
     Ok(aged)
 }
 
-fn asked(arguments: &Arguments) -> Result<Aging, Failure> {
-    let tolerance = arguments.number("--tolerance")?.map(Aging::Tolerance);
-    let days = arguments.number("--days")?.map(Aging::Days);
-    match (tolerance, days) {
-        (Some(aging), None) | (None, Some(aging)) => Ok(aging),
-        _ => Err(arguments.wrong("it takes either --tolerance or --days")),
+/// What the words ask for, before any file is read.
+#[derive(Clone, Copy)]
+enum Asked<'a> {
+    Tolerance(u16),
+    /// so many days, by the table that is named, or by the built-in one
+    Days(u16, Option<&'a OsStr>),
+}
+
+impl<'a> Asked<'a> {
+    fn of(arguments: &'a Arguments) -> Result<Asked<'a>, Failure> {
+        let tolerance = arguments.number("--tolerance")?;
+        let days = arguments.number("--days")?;
+        match (tolerance, days, arguments.file("--table")) {
+            (Some(tolerance), None, None) => Ok(Asked::Tolerance(tolerance)),
+            (None, Some(days), table) => Ok(Asked::Days(days, table)),
+            (Some(_), None, Some(_)) => Err(arguments.wrong("--table goes with --days")),
+            _ => Err(arguments.wrong("it takes either --tolerance or --days")),
+        }
+    }
+
+    fn table(self) -> Option<&'a OsStr> {
+        match self {
+            Asked::Tolerance(_) => None,
+            Asked::Days(_, table) => table,
+        }
+    }
+
+    /// The same with its table, which is read.
+    fn aging(self) -> Result<Aging, Failure> {
+        Ok(match self {
+            Asked::Tolerance(tolerance) => Aging::Tolerance(tolerance),
+            Asked::Days(days, name) => Aging::Days(days, table::named(name)?),
+        })
     }
 }
 
 fn run(arguments: &Arguments) -> Result<Status, Failure> {
-    let aging = asked(arguments)?;
+    let asked = Asked::of(arguments)?;
     let json = arguments.has("--json");
     let names = arguments.several("one file or more")?;
     if !arguments.has("-o") {
         if names.iter().any(|name| name == "-") {
             return Err(arguments.wrong("'-' can't be aged in place; give -o too"));
         }
-        return age_all(names, aging, json);
+        return age_all(names, asked.aging()?, json);
     }
     let [name] = arguments.exactly("one file where -o is given")?;
+    arguments.can_read([name.as_os_str()].into_iter().chain(asked.table()))?;
     let to = arguments.output()?;
     if files::is_read(name, to) {
         let what = "-o names the trail itself; leave -o out to age it in its place";
         return Err(arguments.wrong(what));
     }
-    let aged = age_into(name, aging, to)?;
+    if asked.table().is_some_and(|table| files::is_read(table, to)) {
+        return Err(arguments.wrong("-o names the table"));
+    }
+    let aged = age_into(name, asked.aging()?, to)?;
     match to == "-" {
         // the standard output has the trail
         true => output::message(&text(name, &aged)),

@@ -121,6 +121,14 @@ impl Arguments {
         values.first().map(OsString::as_os_str)
     }
 
+    /// Whether these files can all be read: the standard input can be only one of them.
+    pub fn can_read<'a>(&self, names: impl IntoIterator<Item = &'a OsStr>) -> Result<(), Failure> {
+        match names.into_iter().filter(|name| *name == "-").count() {
+            0..=1 => Ok(()),
+            _ => Err(self.wrong("only one file can be the standard input")),
+        }
+    }
+
     /// The file that a command stores, which it can't do without.
     pub fn output(&self) -> Result<&OsStr, Failure> {
         let to = self.file("-o");

@@ -53,6 +53,8 @@ pub enum Fact {
     Seconds(u32, u32),
     /// The seconds at which a silence begins and ends.
     Silence(u32, u32),
+    /// So many rows of a table.
+    Rows(usize),
 }
 
 impl Fact {
@@ -73,6 +75,7 @@ impl Fact {
                 ("from", Json::Whole(from.into())),
                 ("to", Json::Whole(to.into())),
             ],
+            Fact::Rows(rows) => vec![("rows", Json::Whole(rows as i128))],
         }
     }
 }
@@ -83,6 +86,7 @@ impl fmt::Display for Fact {
             Fact::Count(count) => write!(to, "The count is {count}."),
             Fact::Seconds(first, last) => write!(to, "The trail has seconds {first} to {last}."),
             Fact::Silence(from, end) => write!(to, "The silence is from second {from} to {end}."),
+            Fact::Rows(rows) => write!(to, "The rows are {rows}."),
         }
     }
 }

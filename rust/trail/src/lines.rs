@@ -48,6 +48,16 @@ pub fn entries<T>(
     Ok(entries)
 }
 
+/// What is wrong with a field, given what is wrong with its word.
+pub fn named(field: &'static str) -> impl Fn(String) -> String {
+    move |what| format!("{field}: {what}")
+}
+
+/// What is wrong with a line that has other fields than an entry.
+pub fn miscounted(entry: &str, fields: &[&str]) -> String {
+    format!("{entry}, and here stand {} fields", fields.len())
+}
+
 #[cfg(test)]
 mod tests {
     use super::fields;

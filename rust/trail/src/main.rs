@@ -22,6 +22,7 @@ mod place;
 mod plot;
 mod replay;
 mod store;
+mod table;
 mod trail;
 mod words;
 mod write;
@@ -33,11 +34,12 @@ use std::thread;
 use arguments::{Arguments, Command};
 use failure::{Failure, Status};
 
-static COMMANDS: [Command; 8] = [
+static COMMANDS: [Command; 9] = [
     list::COMMAND,
     check::COMMAND,
     write::COMMAND,
     age::COMMAND,
+    table::COMMAND,
     place::COMMAND,
     cross::COMMAND,
     replay::COMMAND,
@@ -51,6 +53,7 @@ usage: trail COMMAND ARGUMENTS
   check    say whether files begin with a trail
   write    make a trail of a text with fixes
   age      thin trails, by a tolerance or by days
+  table    check a hall's own table of days and tolerances, and print it
   place    say where a cart was at a moment
   cross    say whether a cart was in a box, and when first
   replay   try a list of agings on a trail, and print what each does
@@ -66,16 +69,16 @@ its trail is ignored.
 
 With --json the answer is one line of JSON, and so is a refusal, {\"file\",
 \"refused\", \"sentence\"}, or a failure, {\"file\", \"failed\"}. Refusal 3 has
-\"count\" too, 12 and 13 have \"first\" and \"last\", 21 has \"from\" and \"to\", and
-what is about a line of a text has \"line\". A byte of a file's name that isn't
-UTF-8 is there one of \\udc80 to \\udcff, as Python has it.
+\"count\" too, 12 and 13 have \"first\" and \"last\", 21 has \"from\" and \"to\", 22
+has \"rows\", and what is about a line of a text has \"line\". A byte of a file's
+name that isn't UTF-8 is there one of \\udc80 to \\udcff, as Python has it.
 
 Exit status: 0 done; 1 refused, with the refusal's number and sentence;
 2 wrong usage or a bad line; 3 a file couldn't be read or written, or an answer
 printed.
 ";
 
-/// An aging takes up to 730,000 bytes of stack, whatever limit the shell has set for the first thread.
+/// An aging takes up to 792,000 bytes of stack, whatever limit the shell has set for the first thread.
 const STACK: usize = 4 << 20;
 
 fn main() -> ExitCode {

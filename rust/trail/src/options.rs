@@ -27,13 +27,14 @@ const fn choice(
 
 const EDGES: &[&str] = &["X0", "X1", "Y0", "Y1"];
 
-pub static OPTIONS: [Choice; 10] = [
+pub static OPTIONS: [Choice; 11] = [
     choice("--json", &[], None),
     choice("--force", &[], None),
     choice("--millimetres", &[], None),
     choice("--silence-after", &["SECONDS"], Some(Range::Seconds)),
     choice("--tolerance", &["E"], Some(Range::Tolerances(None))),
     choice("--days", &["D"], Some(Range::Days)),
+    choice("--table", &["FILE"], None),
     choice("--box", EDGES, Some(Range::Places(None))),
     choice("--window", &["S", "E"], Some(Range::Seconds)),
     choice("--original", &["FILE"], None),

@@ -3,24 +3,24 @@
 use std::ffi::{OsStr, OsString};
 use std::fmt::Write as _;
 
-use trails::{Aging, Head, Kind, Refusal, Unit};
+use trails::{Aging, Head, Kind, Refusal, Table, Unit};
 
 use crate::arguments::{Arguments, Command};
 use crate::failure::{refusal_fields, refusal_text, Failure, Status};
 use crate::json::Json;
 use crate::numbers::{whole, Range};
 use crate::trail::{refused, Trail};
-use crate::{files, lines, output, words};
+use crate::{files, lines, output, table, words};
 
 pub const COMMAND: Command = Command {
     name: "replay",
     help: HELP,
-    options: &["--json"],
+    options: &["--table", "--json"],
     run,
 };
 
 const HELP: &str = "\
-usage: trail replay [--json] FILE CALLS
+usage: trail replay [--table FILE] [--json] FILE CALLS
 
 Ages a copy of FILE's trail by each line of CALLS, which is
 
@@ -32,45 +32,54 @@ and the trail's listing with its mark and fixes. Of a trail marked never, the
 fixes are those that one thinning at E keeps. FILE stays as it is. Empty lines
 and comments from '#' on are skipped.
 
-  --json   print one line:
-           {\"file\", \"unit\", \"answers\", \"E\", \"mark\", \"fixes\"}
+  --table FILE   take days by this table, as 'trail age' does
+  --json         print one line:
+                 {\"file\", \"unit\", \"answers\", \"E\", \"mark\", \"fixes\"}
 ";
 
-/// What a call did: how many fixes it left and how many it measured.
+/// What a call did: what it applied, how many fixes it left and how many it measured.
 struct Done {
     aging: Aging,
+    applied: Option<u16>,
     answer: Result<(u32, u32), Refusal>,
 }
 
-fn aging(unit: Unit, fields: &[&str]) -> Result<Aging, String> {
+fn aging(unit: Unit, table: Table, fields: &[&str]) -> Result<Aging, String> {
     match fields {
         ["tolerance", number] => {
             let number = whole(number, Range::Tolerances(Some(unit)))?;
             Ok(Aging::Tolerance(number))
         }
-        ["days", number] => Ok(Aging::Days(whole(number, Range::Days)?)),
+        ["days", number] => Ok(Aging::Days(whole(number, Range::Days)?, table)),
         _ => Err("a call is 'tolerance E' or 'days D'".into()),
     }
 }
 
 fn make(aging: Aging, record: &mut [u8]) -> Done {
+    // of a call that is turned away nothing
+    let applied = aging.applies(record).ok().flatten();
     let measured = aging.apply(record);
     let answer = measured.and_then(|measured| Ok((trails::check(record)?.count, measured)));
-    Done { aging, answer }
+    Done {
+        aging,
+        applied,
+        answer,
+    }
 }
 
 fn run(arguments: &Arguments) -> Result<Status, Failure> {
     let [name, calls]: &[OsString; 2] = arguments.exactly("a file and a list of calls")?;
-    if name == "-" && calls == "-" {
-        return Err(arguments.wrong("only one of the two can be the standard input"));
-    }
+    let table = arguments.file("--table");
+    let names = [name, calls].map(OsString::as_os_str);
+    arguments.can_read(names.into_iter().chain(table))?;
+    let table = table::named(table)?;
     let Trail {
         bytes: mut record,
         kind,
         ..
     } = Trail::read(name)?;
     let text = files::read_text(calls)?;
-    let calls = lines::entries(calls, &text, |fields| aging(kind.unit(), fields))?;
+    let calls = lines::entries(calls, &text, |fields| aging(kind.unit(), table, fields))?;
     let calls = calls.into_iter().map(|(_, aging)| aging);
     let done: Vec<Done> = calls.map(|aging| make(aging, &mut record)).collect();
     let answer = match arguments.has("--json") {
@@ -81,16 +90,15 @@ fn run(arguments: &Arguments) -> Result<Status, Failure> {
     Ok(Status::Done)
 }
 
-/// E, from the calls alone, as document 01's book has it.
-fn greatest(done: &[Done], unit: Unit) -> Option<u16> {
-    done.iter()
-        .filter_map(|done| done.aging.applies(unit))
-        .max()
+/// E, the greatest tolerance that a call applied. What a call applies hangs on its own words and on the record's kind,
+/// which no call changes, so this is what document 01's book has.
+fn greatest(done: &[Done]) -> Option<u16> {
+    done.iter().filter_map(|done| done.applied).max()
 }
 
 fn text_of(done: &[Done], kind: Kind, record: &[u8]) -> Result<String, Refusal> {
     let mut text = String::new();
-    for Done { aging, answer } in done {
+    for Done { aging, answer, .. } in done {
         let (name, number) = named(*aging);
         let what = match answer {
             Ok((kept, measured)) => format!("kept {kept}, measured {measured}"),
@@ -99,8 +107,7 @@ fn text_of(done: &[Done], kind: Kind, record: &[u8]) -> Result<String, Refusal> 
         // writing to a String never fails
         let _ = writeln!(text, "{name} {number}: {what}");
     }
-    let unit = kind.unit();
-    let greatest = greatest(done, unit).map_or("none".into(), |e| words::length(e, unit));
+    let greatest = words::applied(greatest(done), kind.unit());
     let listing = trails::list(record)?;
     Ok(format!("{text}E {greatest}\n{listing}"))
 }
@@ -108,7 +115,7 @@ fn text_of(done: &[Done], kind: Kind, record: &[u8]) -> Result<String, Refusal> 
 fn named(aging: Aging) -> (&'static str, u16) {
     match aging {
         Aging::Tolerance(tolerance) => ("tolerance", tolerance),
-        Aging::Days(days) => ("days", days),
+        Aging::Days(days, _) => ("days", days),
     }
 }
 
@@ -130,7 +137,7 @@ fn answer(name: &OsStr, done: &[Done], record: &[u8]) -> Result<Json, Refusal> {
         ("file", Json::text(name)),
         ("unit", Json::unit(kind.unit())),
         ("answers", Json::List(done.iter().map(one).collect())),
-        ("E", Json::mark(greatest(done, kind.unit()))),
+        ("E", Json::mark(greatest(done))),
         ("mark", Json::mark(mark)),
         ("fixes", Json::fixes(kind, &trails::fixes(record)?.any())),
     ]))

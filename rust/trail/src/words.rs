@@ -69,6 +69,11 @@ pub fn mark(mark: Option<u16>, unit: Unit) -> String {
     mark.map_or("never".into(), |mark| length(mark, unit))
 }
 
+/// The tolerance that agings apply in this unit as people read it.
+pub fn applied(tolerance: Option<u16>, unit: Unit) -> String {
+    tolerance.map_or("none".into(), |e| length(e, unit))
+}
+
 /// A length as people read it.
 pub fn length(length: u16, unit: Unit) -> String {
     format!("{length} {}", unit.symbol())

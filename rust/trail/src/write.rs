@@ -70,19 +70,19 @@ fn line<L: FromStr>(unit: Unit, fields: &[&str]) -> Result<Line<L>, String> {
         [t, x, y] => (t, x, y, None),
         [t, x, y, fourth] => (t, x, y, Some(fourth)),
         _ => {
-            let found = fields.len();
-            return Err(format!(
-                "a fix is 'time x y' or 'time x y silence', and here stand {found} fields"
-            ));
+            let entry = "a fix is 'time x y' or 'time x y silence'";
+            return Err(lines::miscounted(entry, fields));
         }
     };
-    let named = |field| move |what| format!("{field}: {what}");
     let places = Range::Places(Some(unit));
     Ok(Line {
-        t: whole(t, Range::Seconds).map_err(named("time"))?,
-        x: whole(x, places).map_err(named("x"))?,
-        y: whole(y, places).map_err(named("y"))?,
-        silence: fourth.map(silence).transpose().map_err(named("silence"))?,
+        t: whole(t, Range::Seconds).map_err(lines::named("time"))?,
+        x: whole(x, places).map_err(lines::named("x"))?,
+        y: whole(y, places).map_err(lines::named("y"))?,
+        silence: fourth
+            .map(silence)
+            .transpose()
+            .map_err(lines::named("silence"))?,
     })
 }
 

@@ -48,6 +48,62 @@ pub struct Answer {
     pub value: u32,
 }
 
+/// The most rows of a table.
+pub const ROWS: usize = 32;
+
+/// The numbers of a table, as lists of agings are lent them.
+pub const TABLE_NUMBERS: usize = 65;
+
+/// A row of a table: from this day on, this tolerance.
+#[repr(C)]
+#[derive(Clone, Copy, Debug, Default, PartialEq, Eq, Hash)]
+pub struct Row {
+    /// The first day that it is for.
+    pub day: u16,
+    /// In centimetres, whatever records it is for.
+    pub tolerance: u16,
+}
+
+/// A table: the first `count` of the rows. Whoever made it, each call that takes one checks it.
+#[repr(C)]
+#[derive(Clone, Copy, Debug, Default, PartialEq, Eq, Hash)]
+pub struct Table {
+    /// 1 to 32 of a table that is accepted.
+    pub count: u16,
+    /// Of a loaded one those from the count on are 0.
+    pub rows: [Row; ROWS],
+}
+
+impl Table {
+    /// Its numbers, in order.
+    pub fn numbers(&self) -> impl Iterator<Item = u16> + '_ {
+        let rows = self.rows.iter().flat_map(|row| [row.day, row.tolerance]);
+        [self.count].into_iter().chain(rows)
+    }
+}
+
+/// A table that was loaded.
+#[repr(C)]
+#[derive(Clone, Copy, Debug, Default, PartialEq, Eq)]
+pub struct Loaded {
+    /// 0 for none; else the table has no rows.
+    pub refusal: u32,
+    /// The rows that were loaded.
+    pub table: Table,
+}
+
+/// What an aging by days applies.
+#[repr(C)]
+#[derive(Clone, Copy, Debug, Default, PartialEq, Eq)]
+pub struct Applied {
+    /// 0 for none; else all that follows is 0.
+    pub refusal: u32,
+    /// 1 and the tolerance follows; or 0, and so is that: nothing.
+    pub applies: u32,
+    /// In the record's unit.
+    pub tolerance: u32,
+}
+
 /// What became of a list of agings.
 #[repr(C)]
 #[derive(Clone, Copy, Debug, PartialEq, Eq)]
@@ -159,7 +215,15 @@ extern "C" {
     ) -> Answer;
     fn trails_list(record: *const u8, lent: usize, output: *mut [u8; LONGEST_TEXT]) -> usize;
     fn trails_age(record: *mut u8, lent: usize, tolerance: u16) -> Answer;
-    fn trails_age_by_days(record: *mut u8, lent: usize, days: u16) -> Answer;
+    fn trails_load(
+        days: *const u16,
+        day_count: usize,
+        tolerances: *const u16,
+        tolerance_count: usize,
+    ) -> Loaded;
+    fn trails_built_in() -> Table;
+    fn trails_age_by_days(record: *mut u8, lent: usize, days: u16, table: Table) -> Answer;
+    fn trails_days_apply(record: *const u8, lent: usize, days: u16, table: Table) -> Applied;
     fn trails_place(record: *const u8, lent: usize, second: u32, thousandths: u16) -> Place;
     fn trails_crosses(
         record: *const u8,
@@ -171,12 +235,21 @@ extern "C" {
         bottom: i32,
         top: i32,
     ) -> Crossing;
-    fn trails_run(record: *mut u8, lent: usize, calls: *const u32, call_count: usize) -> Run;
+    fn trails_run(
+        record: *mut u8,
+        lent: usize,
+        calls: *const u64,
+        call_count: usize,
+        tables: *const u16,
+        table_numbers: usize,
+    ) -> Run;
     fn trails_crosses_after(
         record: *mut u8,
         lent: usize,
-        calls: *const u32,
+        calls: *const u64,
         call_count: usize,
+        tables: *const u16,
+        table_numbers: usize,
         start: u32,
         end: u32,
         left: i32,
@@ -302,10 +375,35 @@ pub fn age(record: &mut [u8], tolerance: u16) -> Answer {
     unsafe { trails_age(record.as_mut_ptr(), record.len(), tolerance) }
 }
 
-/// Ages by days: checks 1 to 9 and 20. The value is how many fixes were measured.
-pub fn age_by_days(record: &mut [u8], days: u16) -> Answer {
-    // SAFETY: as in `age`.
-    unsafe { trails_age_by_days(record.as_mut_ptr(), record.len(), days) }
+/// The table of the rows in two columns, as many as the shorter has: checks 22 and 23.
+pub fn load(days: &[u16], tolerances: &[u16]) -> Loaded {
+    // SAFETY: as in `check`.
+    unsafe {
+        trails_load(
+            days.as_ptr(),
+            days.len(),
+            tolerances.as_ptr(),
+            tolerances.len(),
+        )
+    }
+}
+
+/// The built-in table.
+pub fn built_in() -> Table {
+    // SAFETY: it is lent nothing.
+    unsafe { trails_built_in() }
+}
+
+/// Ages by days, by a table: checks 1 to 9, 20, 22 and 23. The value is how many fixes were measured.
+pub fn age_by_days(record: &mut [u8], days: u16, table: Table) -> Answer {
+    // SAFETY: as in `age`; every content of a table has an answer.
+    unsafe { trails_age_by_days(record.as_mut_ptr(), record.len(), days, table) }
+}
+
+/// What `age_by_days` would apply: the same checks.
+pub fn days_apply(record: &[u8], days: u16, table: Table) -> Applied {
+    // SAFETY: as in `check`, and of the table as in `age_by_days`.
+    unsafe { trails_days_apply(record.as_ptr(), record.len(), days, table) }
 }
 
 /// Where the cart was at a moment: checks 1 to 9, 20, 11, 12 and 21.
@@ -331,30 +429,45 @@ pub fn crosses(record: &[u8], asked: Question) -> Crossing {
     }
 }
 
-/// Makes all agings of a list: checks 1 to 9 and 20. A call below 65,536 is a tolerance, and one from there on is days,
-/// by its lower 16 bits.
-pub fn run(record: &mut [u8], calls: &[u32]) -> Run {
-    // SAFETY: as in `age`; the record overlaps no call.
+/// What a list of agings has for one by days: by the lent table k, counted from 0.
+pub fn by_table(k: usize, days: u16) -> u64 {
+    ((k as u64 + 1) << 16) + u64::from(days)
+}
+
+/// Makes all agings of a list: checks 1 to 9 and 20. A call below 65,536 is a tolerance, and one from there on is as
+/// `by_table` has it. The tables are lent one after the other, each as its numbers; one of which not all are lent has no
+/// rows.
+pub fn run(record: &mut [u8], calls: &[u64], tables: &[u16]) -> Run {
+    // SAFETY: as in `age`; the record overlaps no call and no table.
     unsafe {
         trails_run(
             record.as_mut_ptr(),
             record.len(),
             calls.as_ptr(),
             calls.len(),
+            tables.as_ptr(),
+            tables.len(),
         )
     }
 }
 
 /// Makes all agings of a list, as `run` does, and then asks as `crosses` does: checks 1 to 9, 20, 13 and 14, before any
 /// aging.
-pub fn crosses_after(record: &mut [u8], calls: &[u32], asked: Question) -> Crossing {
-    // SAFETY: as in `age`; the record overlaps no call.
+pub fn crosses_after(
+    record: &mut [u8],
+    calls: &[u64],
+    tables: &[u16],
+    asked: Question,
+) -> Crossing {
+    // SAFETY: as in `run`.
     unsafe {
         trails_crosses_after(
             record.as_mut_ptr(),
             record.len(),
             calls.as_ptr(),
             calls.len(),
+            tables.as_ptr(),
+            tables.len(),
             asked.start,
             asked.end,
             asked.left,

@@ -8,7 +8,7 @@
 //! unit. One of kind 3 has silences: between a fix that says so and the next one nobody knows where the cart was.
 //!
 //! ```
-//! use trails::{Area, Fix, Fixes, MillimetreFix, Moment, Refusal, SilenceFix, Unit, Window};
+//! use trails::{Area, Fix, Fixes, MillimetreFix, Moment, Refusal, Row, SilenceFix, Table, Unit, Window};
 //!
 //! let fix = |t, x| Fix { t, x, y: 0 };
 //! let mut record = trails::write(&[fix(0, 0), fix(10, 100), fix(20, 200)])?;
@@ -32,6 +32,17 @@
 //! assert_eq!(at(300)?.whole_x, 600);
 //! let between = Area { left: 200, right: 400, bottom: -9, top: 9 };
 //! assert_eq!(trails::crosses(&record, between, Window { start: 0, end: 300 })?, None);
+//!
+//! // a hall that leaves its trails alone for two weeks, and then thins them at 5 centimetres
+//! let row = |day, tolerance| Row { day, tolerance };
+//! let table = Table::load(&[row(14, 5), row(60, 50)])?;
+//! assert_eq!(Table::load(&[row(14, 50), row(60, 5)]), Err(Refusal::BadRows));
+//! let fix = |t, x| Fix { t, x, y: 0 };
+//! let mut record = trails::write(&[fix(0, 0), fix(5, 51), fix(10, 100)])?;
+//! assert_eq!(trails::age_by_days(&mut record, 13, &table), Ok(0));
+//! assert_eq!(trails::check(&record)?.mark, None);
+//! assert_eq!(trails::age_by_days(&mut record, 14, &table), Ok(1));
+//! assert_eq!(trails::check(&record)?.mark, Some(5));
 //! # Ok::<(), Refusal>(())
 //! ```
 #![deny(unsafe_code)]
@@ -44,6 +55,7 @@ mod kind;
 mod questions;
 mod record;
 mod refusal;
+mod table;
 mod unit;
 
 pub use aging::{age, age_by_days, run, Aging};
@@ -53,4 +65,5 @@ pub use questions::{crosses, crosses_after, place, Area, Crossing, Moment, Place
 pub use record::{check, claimed_count, claimed_kind, fixes, list, write, write_into};
 pub use record::{Head, LONGEST};
 pub use refusal::Refusal;
+pub use table::{Row, Table};
 pub use unit::{in_threes, Limits, Unit};

@@ -1,6 +1,6 @@
 //! The two questions: where a cart was at a moment, and whether it crossed a box.
 
-use crate::aging::{numbers, Aging};
+use crate::aging::{Aging, List};
 use crate::interface;
 use crate::refusal::Refusal;
 
@@ -119,9 +119,11 @@ pub fn crosses_after(
     area: Area,
     window: Window,
 ) -> Result<Option<Crossing>, Refusal> {
+    let List { calls, tables } = List::of(list);
     told(interface::crosses_after(
         record,
-        &numbers(list),
+        &calls,
+        &tables,
         asked(area, window),
     ))
 }

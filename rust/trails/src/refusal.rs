@@ -7,7 +7,8 @@ use crate::kind::{of_every_kind, Kind};
 use crate::unit::in_threes;
 
 /// Why a call was turned away, in the order in which a call makes its checks. A refused call leaves all lent bytes as
-/// they were. What has a limit here has that of kind 1; `sentence` says each with the limits of a record's own kind.
+/// they were. What has a limit here has that of kind 1, and 23 that of every kind; `sentence` says each with the limits of a
+/// record's own kind.
 #[derive(Clone, Copy, Debug, PartialEq, Eq, Hash)]
 pub enum Refusal {
     /// 1: the lent bytes are fewer than 10.
@@ -30,6 +31,10 @@ pub enum Refusal {
     LongSpan,
     /// 20: a silence byte is neither 0 nor 1, or the last fix has 1.
     BadSilence,
+    /// 22: the table has no rows, or more than 32.
+    BadRowCount,
+    /// 23: the table's days don't rise strictly, its tolerances fall, or one is above 32,000.
+    BadRows,
     /// 10: the asked tolerance is above 32,000.
     HighTolerance,
     /// 11: the asked thousandths are above 999.
@@ -48,9 +53,9 @@ pub enum Refusal {
     Unknown(u32),
 }
 
-/// The seventeen, in checking order, each with its number and its sentence, in which the names of `LIMITS` stand for a
+/// The nineteen, in checking order, each with its number and its sentence, in which the names of `LIMITS` stand for a
 /// kind's numbers.
-const SENTENCES: [(u32, Refusal, &str); 17] = [
+const SENTENCES: [(u32, Refusal, &str); 19] = [
     (1, Refusal::FewBytes, "The lent bytes are fewer than 10."),
     (2, Refusal::OtherKind, "The kind isn't 1, 2 or 3."),
     (3, Refusal::BadCount, "The count is 0 or above 4,096."),
@@ -84,6 +89,16 @@ const SENTENCES: [(u32, Refusal, &str); 17] = [
         20,
         Refusal::BadSilence,
         "A silence byte is neither 0 nor 1, or the last fix has 1.",
+    ),
+    (
+        22,
+        Refusal::BadRowCount,
+        "The table has no rows, or more than 32.",
+    ),
+    (
+        23,
+        Refusal::BadRows,
+        "The table's days don't rise strictly, its tolerances fall, or one is above 32,000.",
     ),
     (
         10,
@@ -152,7 +167,7 @@ impl Refusal {
         known.map_or(Refusal::Unknown(number), |(_, refusal, _)| *refusal)
     }
 
-    /// Its number in the documents: 1 to 15 in document 01, 20 and 21 in document 02.
+    /// Its number in the documents: 1 to 15 in document 01, 20 to 23 in document 02.
     pub fn number(self) -> u32 {
         match self {
             Refusal::Unknown(number) => number,
@@ -207,7 +222,7 @@ mod tests {
         for number in (1..=100).chain([u32::MAX]) {
             let refusal = Refusal::from_number(number);
             assert_eq!(refusal.number(), number);
-            let known = matches!(number, 1..=15 | 20 | 21);
+            let known = matches!(number, 1..=15 | 20..=23);
             assert_eq!(matches!(refusal, Refusal::Unknown(_)), !known);
             let sentences = Kind::ALL.map(|kind| refusal.sentence(kind));
             for sentence in sentences.into_iter().chain([refusal.to_string()]) {
@@ -225,6 +240,8 @@ mod tests {
         assert_eq!(Refusal::ShortOutput.number(), 15);
         assert_eq!(Refusal::BadSilence.number(), 20);
         assert_eq!(Refusal::InSilence.number(), 21);
+        assert_eq!(Refusal::BadRowCount.number(), 22);
+        assert_eq!(Refusal::BadRows.number(), 23);
     }
 
     #[test]

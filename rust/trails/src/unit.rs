@@ -18,7 +18,7 @@ pub struct Limits {
     pub place: i32,
     /// The greatest tolerance, and the greatest mark.
     pub tolerance: u16,
-    /// How many of the unit are a centimetre, in which document 01 has its table of days.
+    /// How many of the unit are a centimetre, in which tables of days have their tolerances.
     pub per_centimetre: u16,
 }
 

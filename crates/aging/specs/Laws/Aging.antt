@@ -1,24 +1,24 @@
--- Aging: what the marks, the packing and the head make of a record, the checks in order, and the table's rows. The step of every call: Step.antt.
-use mathlib.Core.Path.{_≡_, refl, sym, _∙_, ap}
+-- Aging: what the marks, the packing and the head make of a record, and the checks in order. By days: Days.antt. The step of every call: Step.antt.
+use mathlib.Core.Path.{_≡_, refl, sym, _∙_}
 use mathlib.Core.Bool.{Bool}
 use mathlib.Core.List.{List, [], _∷_}
-use mathlib.Core.Option.{Option, some, none}
-use Prim.Native.Nat.{ℕ, _*_, _<_, _≤_}
-use native.Mathlib.Nat.{mul-le-mul}
+use mathlib.Core.Option.{some, none}
+use Prim.Native.Nat.{ℕ, _<_, _≤_}
 use native.Mathlib.Omega.{arith}
 use lib.ListN.{length}
 use lib.Seq.{sets}
-use borrow.Author.Tests.{lt-ltb, le-ltb, le-leb, lt-leb}
+use borrow.Author.Tests.{lt-ltb, le-ltb}
 use Rattle.format.specs.Kinds.{Kind}
 use Rattle.format.specs.Format.{kind-of, record-length, mark-field, count-field, fixes, fix-at, each, header-bytes}
-use Rattle.format.specs.Laws.Kinds.{IsKind, kind-of-is, longer}
-use Rattle.record.specs.Checks.{Check, high-tolerance, sentence, first, asked-of, reading, read-refusal, checks, IsAccepted}
+use Rattle.format.specs.Laws.Kinds.{kind-of-is, longer}
+use Rattle.record.specs.Checks.{Check, high-tolerance, sentence, first, reading, read-refusal, checks, IsAccepted}
 use Rattle.record.specs.Answers.{gives, turns-away}
 use Rattle.format.specs.Laws.Each.{length-each}
+use Rattle.record.specs.Laws.Head.{asks}
 use Rattle.record.specs.Laws.First.{stops, passes, none-first, some-first, none-front, reading-alone}
 use Rattle.thinning.specs.Thinning.{thinning}
 use Rattle.thinning.specs.Marks.{kept-by, Says}
-use Rattle.aging.specs.Aging.{new-mark, thinned-record, with-tolerance, age-refusal, age-answer, aged, last-row, days-give, in-unit, days-apply, days-answer, aged-by-days, count-at, record-at}
+use Rattle.aging.specs.Aging.{new-mark, thinned-record, with-tolerance, age-refusal, age-answer, aged}
 use Rattle.aging.specs.Laws.Pack.{Packed, packed-record}
 use Rattle.thinning.specs.Laws.KeptBy.{kept-by-length}
 
@@ -34,7 +34,7 @@ record-is b e n {K} {k} {d} kind is whole t q s =
 
 -- ---- the checks: the reader's, and then 10
 abbrev says : List ℕ → (e : ℕ) → Check → Bool
-says b e = sentence (kind-of b) (asked-of b (with-tolerance e))
+says b e = asks b (with-tolerance e)
 
 module _ (b : List ℕ) (e : ℕ) where
   -- what the reader turns away aging turns away by the same number
@@ -56,45 +56,6 @@ age-refused b e k h = (rw h refl, rw h refl)
 pub age-done : (b : List ℕ) (e : ℕ) → age-refusal b e ≡ none → (gives ((thinning e (fixes b)) .count) ≡ age-answer b e) × (thinned-record b e ≡ aged b e)
 age-done b e h = (rw h refl, rw h refl)
 
-pub days-refused : (b : List ℕ) (d k : ℕ) → read-refusal b ≡ some k → (turns-away k ≡ days-answer b d) × (b ≡ aged-by-days b d)
-days-refused b d k h = (rw h refl, rw h refl)
-
-pub days-done : (b : List ℕ) (d : ℕ) (t : Option ℕ) → days-apply (kind-of b) d ≡ t → read-refusal b ≡ none → (gives (count-at t b) ≡ days-answer b d) × (record-at t b ≡ aged-by-days b d)
-days-done b d t e h = (rw (h, e) refl, rw (h, e) refl)
-
 -- ---- what passes is accepted
 pub age-accepted : (b : List ℕ) (e : ℕ) → age-refusal b e ≡ none → IsAccepted b
 age-accepted b e h = record { accepted = sym (reading-alone b (with-tolerance e)) ∙ none-front (says b e) (checks reading) (high-tolerance ∷ []) h }
-
--- ---- the table, from its last row to its first
-module _ (d : ℕ) where
-  pub from-90 : 90 ≤ d → some 400 ≡ days-give d
-  unfolding last-row
-  from-90 h = rw (le-leb 90 d h) refl
-
-  pub from-30 : d < 90 → 30 ≤ d → some 100 ≡ days-give d
-  unfolding last-row
-  from-30 a h = rw (lt-leb 90 d a, le-leb 30 d h) refl
-
-  pub from-7 : d < 90 → d < 30 → 7 ≤ d → some 25 ≡ days-give d
-  unfolding last-row
-  from-7 a b h = rw (lt-leb 90 d a, lt-leb 30 d b, le-leb 7 d h) refl
-
-  pub from-2 : d < 90 → d < 30 → d < 7 → 2 ≤ d → some 10 ≡ days-give d
-  unfolding last-row
-  from-2 a b c h = rw (lt-leb 90 d a, lt-leb 30 d b, lt-leb 7 d c, le-leb 2 d h) refl
-
-  pub from-0 : d < 90 → d < 30 → d < 7 → d < 2 → none ≡ days-give d
-  unfolding last-row
-  from-0 a b c h = rw (lt-leb 90 d a, lt-leb 30 d b, lt-leb 7 d c, lt-leb 2 d h) refl
-
--- ---- a row in a kind's unit fits 32 bits, and the lesser of it and the kind's greatest is taken
-module _ (K : Kind) (is : IsKind K) (row : ℕ) where
-  pub unit-fits : row < 65536 → K .per-centimetre * row < 4294967296
-  unit-fits h = let p : row ≤ 65535 = omega arith in omega (arith, mul-le-mul (is .few-units) p)
-
-  pub unit-below : K .per-centimetre * row < K .top → some (K .per-centimetre * row) ≡ in-unit K (some row)
-  unit-below h = ap some (omega arith)
-
-  pub unit-above : K .top ≤ K .per-centimetre * row → some (K .top) ≡ in-unit K (some row)
-  unit-above h = ap some (omega arith)

@@ -18,7 +18,7 @@ use Rattle.format.specs.Laws.Kinds.{same-kind-of, kind-code}
 use Rattle.format.specs.Laws.Each.{length-each}
 use Rattle.format.specs.Laws.RoundTrip.{AreBytes}
 use Rattle.format.specs.Laws.Changed.{SameHead, same-head-swap, changed-head, changed-bytes}
-use Rattle.record.specs.Checks.{high-tolerance, sentence, IsAccepted, nothing, read-refusal, head-refusal}
+use Rattle.record.specs.Checks.{Row, bad-row-count, bad-rows, high-tolerance, sentence, IsAccepted, nothing, read-refusal, head-refusal, with-table}
 use Rattle.record.specs.Moved.{moved-record, Movable}
 use Rattle.record.specs.Laws.First.{answer-same}
 use Rattle.record.specs.Laws.Head.{head-none}
@@ -31,6 +31,7 @@ use Rattle.thinning.specs.Laws.KeptBy.{same-positions}
 use Rattle.thinning.specs.Laws.Mapped.{mapped, thin-mapped}
 use Rattle.aging.specs.Aging.{Call, by-tolerance, by-days, left-by, answered, with-tolerance, age-refusal, days-refusal, days-apply, count-at, record-at, new-mark, thinned-record, applies}
 use Rattle.aging.specs.Laws.Aging.{age-accepted}
+use Rattle.aging.specs.Laws.Days.{days-accepted}
 use Rattle.aging.specs.Laws.Step.{thins, step, left-refused, left-accepted, applies-low}
 
 -- ---- a list of fixes, all k seconds later
@@ -46,6 +47,11 @@ module _ (k : ℕ) (b c : List ℕ) (l : Later k b c) where
   read-later : read-refusal c ≡ read-refusal b
   read-later = later-refusal k b c l nothing nothing [] (λ h. all-none)
 
+  -- the table decides the same of both
+  days-refusal-later : (rows : List Row) → days-refusal c rows ≡ days-refusal b rows
+  unfolding sentence
+  days-refusal-later rows = later-refusal k b c l (with-table rows) (with-table rows) (bad-row-count ∷ bad-rows ∷ []) (λ h. all-more refl (all-more refl all-none))
+
   age-refusal-later : (e : ℕ) → age-refusal c e ≡ age-refusal b e
   unfolding sentence
   age-refusal-later e = later-refusal k b c l (with-tolerance e) (with-tolerance e) (high-tolerance ∷ []) (λ h. all-more (rw same-kind refl) all-none)
@@ -60,7 +66,7 @@ module _ (k : ℕ) (b c : List ℕ) (l : Later k b c) where
 
   answered-later : (q : Call) → answered c q ≡ answered b q
   answered-later (by-tolerance e) = rw (age-refusal-later e) (answer-same (age-refusal b e) (λ x. count-later (some e) (age-accepted b e x)))
-  answered-later (by-days d) = rw (read-later, same-kind) (answer-same (days-refusal b) (λ x. count-later (days-apply (kind-of b) d) (record { accepted = x })))
+  answered-later (by-days d rows) = rw (days-refusal-later rows, same-kind) (answer-same (days-refusal b rows) (λ x. count-later (days-apply (kind-of b) d rows) (days-accepted b rows x)))
 
   -- ---- what it leaves is as much later
   module _ (bytes-b : AreBytes b) (bytes-c : AreBytes c) where

@@ -19,17 +19,19 @@ use Rattle.format.specs.declared.Kind.{Kind as CodeKind}
 use Rattle.format.specs.Kinds.{Kind, layout}
 use Rattle.format.specs.Format.{kind-of, record-length, mark-field, count-field, fixes, fix-at, record-bytes}
 use Rattle.format.specs.Laws.Kinds.{of-code, is-kind, kind-of-is, is-coded, longer}
-use Rattle.record.specs.Checks.{IsAccepted, read-refusal, too-long, last-silent, of-ends}
-use Rattle.record.specs.Answers.{Answer, gives, turns-away}
+use Rattle.record.specs.Checks.{Row, IsAccepted, read-refusal, too-long, last-silent, of-ends, load-refusal}
+use Rattle.record.specs.Answers.{Answer, gives, turns-away, unless}
 use Rattle.format.specs.Laws.Each.{length-each}
 use Rattle.format.specs.Laws.Layout.{length-record}
 use Rattle.format.specs.Laws.RoundTrip.{AreBytes, InRange, read-record, bytes-in-range, record-are-bytes}
 use Rattle.record.specs.Laws.Accepted.{GoodMark, mark-applied, mark-never-applied, GoodFixes, accepted-good, accept, places-good, good-places, times-good, good-times, silences-good, good-silences}
+use Rattle.table.specs.Table.{days-give}
 use Rattle.thinning.specs.Thinning.{thin, thinning, thinned}
-use Rattle.aging.specs.Aging.{Call, by-tolerance, by-days, left-by, answered, age-answer, aged, aged-by-days, days-give, in-unit, days-apply, new-mark, thinned-record, record-at, applies}
+use Rattle.aging.specs.Aging.{Call, by-tolerance, by-days, left-by, answered, age-answer, aged, days-answer, aged-by-days, in-unit, days-apply, new-mark, thinned-record, record-at, applies}
 use Rattle.thinning.specs.Laws.Kept.{SameEnds, no-fixes, same-ends}
 use Rattle.thinning.specs.Laws.Trail.{kept-all, kept-rising, ends-stay, no-more, never-silent}
-use Rattle.aging.specs.Laws.Aging.{age-reader, age-none, age-10, age-refused, age-done, days-refused, days-done}
+use Rattle.aging.specs.Laws.Aging.{age-reader, age-none, age-10, age-refused, age-done}
+use Rattle.aging.specs.Laws.Days.{days-reader, days-loading, days-refused, days-done}
 use Rattle.record.specs.Laws.First.{some-none}
 use Rattle.record.specs.Laws.Silence.{NoSilence, no-silence}
 
@@ -114,8 +116,8 @@ pub thinned-as-one : (b : List ℕ) (e : ℕ) → kind-of b .silence-width ≡ 0
 thinned-as-one b e h = never-silent e (fixes b) (all-map not-silent (no-silence b h))
 
 -- ---- no tolerance that days apply is above the limit
-days-low : (K : Kind) (d e : ℕ) → days-apply K d ≡ some e → e ≤ K .top
-days-low K d e h = go (days-give d) h
+days-low : (K : Kind) (d e : ℕ) (rows : List Row) → days-apply K d rows ≡ some e → e ≤ K .top
+days-low K d e rows h = go (days-give rows d) h
   where
     go : (t : Option ℕ) → in-unit K t ≡ some e → e ≤ K .top
     go none h = absurd (some-none (sym h))
@@ -129,24 +131,30 @@ step b (by-tolerance e) a = go (test e (kind-of b .top))
     go : {t : Bool} → Test e (kind-of b .top) t → aged b e ≡ record-at (cond t (some e) none) b
     go (holds h) = sym (age-done b e (age-none b e (a .accepted) h) .1)
     go (fails h) = sym (age-refused b e 10 (age-10 b e (a .accepted) h) .1)
-step b (by-days d) a = sym (days-done b d (days-apply (kind-of b) d) refl (a .accepted) .1)
+step b (by-days d rows) a = go (load-refusal rows) refl
+  where
+    go : (r : Option ℕ) → load-refusal rows ≡ r → aged-by-days b d rows ≡ record-at (unless r none (days-apply (kind-of b) d rows)) b
+    go none h = sym (days-done b d rows (days-apply (kind-of b) d rows) refl (days-loading b rows (a .accepted) ∙ h) .1)
+    go (some k) h = sym (days-refused b d rows k (days-loading b rows (a .accepted) ∙ h) .1)
 
 -- Bytes that the reader turns away every call leaves as they are.
 pub left-refused : (b : List ℕ) (k : ℕ) (c : Call) → read-refusal b ≡ some k → left-by b c ≡ b
 left-refused b k (by-tolerance e) h = sym (age-refused b e k (age-reader b e k h) .1)
-left-refused b k (by-days d) h = sym (days-refused b d k h .1)
+left-refused b k (by-days d rows) h = sym (days-refused b d rows k (days-reader b rows k h) .1)
 
 -- By days is by tolerance at the table's.
-pub days-as-tolerance : (b : List ℕ) (d e : ℕ) → IsAccepted b → days-apply (kind-of b) d ≡ some e → (aged-by-days b d ≡ aged b e) × (answered b (by-days d) ≡ answered b (by-tolerance e))
-days-as-tolerance b d e a h =
-    let one = days-done b d (some e) h (a .accepted) in
-    let two = age-done b e (age-none b e (a .accepted) (days-low (kind-of b) d e h)) in
+pub days-as-tolerance : (b : List ℕ) (d e : ℕ) (rows : List Row) → IsAccepted b → load-refusal rows ≡ none → days-apply (kind-of b) d rows ≡ some e
+    → (aged-by-days b d rows ≡ aged b e) × (answered b (by-days d rows) ≡ answered b (by-tolerance e))
+days-as-tolerance b d e rows a l h =
+    let one = days-done b d rows (some e) h (days-loading b rows (a .accepted) ∙ l) in
+    let two = age-done b e (age-none b e (a .accepted) (days-low (kind-of b) d e rows h)) in
     (sym (one .1) ∙ two .1, sym (one .0) ∙ two .0)
 
--- ---- WHICH CALLS ARE TURNED AWAY on an accepted record: agings at a tolerance above its kind's limit, by number 10. An aging by days never is.
-abbrev pub TooHigh : Kind → Call → Type 0
-TooHigh K (by-tolerance e) = K .top < e
-TooHigh K (by-days d) = ⊥
+-- ---- WHICH CALLS ARE TURNED AWAY on an accepted record, and by which number: agings at a tolerance above its kind's limit by 10, and agings by days whose table
+-- loading would turn away, by loading's number.
+abbrev pub IsTurnedAway : Kind → Call → (k : ℕ) → Type 0
+IsTurnedAway K (by-tolerance e) k = (k ≡ 10) × (K .top < e)
+IsTurnedAway K (by-days d rows) k = load-refusal rows ≡ some k
 
 gives-no-refusal : {n k : ℕ} → gives n ≡ turns-away k → ⊥
 gives-no-refusal e = let z : _≡_ {A = ℕ} 0 1 = cc in omega arith
@@ -154,7 +162,7 @@ gives-no-refusal e = let z : _≡_ {A = ℕ} 0 1 = cc in omega arith
 same-number : {n k : ℕ} → _≡_ {A = Answer ℕ} (turns-away n) (turns-away k) → n ≡ k
 same-number e = cc
 
-pub turned-away : (b : List ℕ) (c : Call) (k : ℕ) → IsAccepted b → answered b c ≡ turns-away k ↔ ((k ≡ 10) × TooHigh (kind-of b) c)
+pub turned-away : (b : List ℕ) (c : Call) (k : ℕ) → IsAccepted b → answered b c ≡ turns-away k ↔ IsTurnedAway (kind-of b) c k
 turned-away b (by-tolerance e) k a = (go (test e (kind-of b .top)), λ (z, h). sym (by-10 h) ∙ ap turns-away (sym z))
   where
     by-10 : kind-of b .top < e → turns-away 10 ≡ age-answer b e
@@ -163,17 +171,28 @@ turned-away b (by-tolerance e) k a = (go (test e (kind-of b .top)), λ (z, h). s
     go : {t : Bool} → Test e (kind-of b .top) t → age-answer b e ≡ turns-away k → (k ≡ 10) × (kind-of b .top < e)
     go (holds h) z = absurd (gives-no-refusal (age-done b e (age-none b e (a .accepted) h) .0 ∙ z))
     go (fails h) z = (sym (same-number (by-10 h ∙ z)), h)
-turned-away b (by-days d) k a = (λ z. absurd (gives-no-refusal (days-done b d (days-apply (kind-of b) d) refl (a .accepted) .0 ∙ z)), λ (z, h). absurd h)
+turned-away b (by-days d rows) k a = (go (load-refusal rows) refl, λ h. sym (by-table h))
+  where
+    by-table : {n : ℕ} → load-refusal rows ≡ some n → turns-away n ≡ days-answer b d rows
+    by-table {n} h = days-refused b d rows n (days-loading b rows (a .accepted) ∙ h) .0
 
--- These apply no tolerance, and every other aging by tolerance applies its own.
-pub too-high-applies : (K : Kind) (c : Call) → TooHigh K c → applies K c ≡ none
+    go : (r : Option ℕ) → load-refusal rows ≡ r → days-answer b d rows ≡ turns-away k → load-refusal rows ≡ some k
+    go none h z = absurd (gives-no-refusal (days-done b d rows (days-apply (kind-of b) d rows) refl (days-loading b rows (a .accepted) ∙ h) .0 ∙ z))
+    go (some n) h z = h ∙ ap some (same-number (by-table h ∙ z))
+
+-- These apply no tolerance, and every other aging by tolerance applies its own, and by days the table's.
+pub turned-applies : (K : Kind) (c : Call) (k : ℕ) → IsTurnedAway K c k → applies K c ≡ none
 unfolding applies
-too-high-applies K (by-tolerance e) h = rw (lt-leb e (K .top) h) refl
-too-high-applies K (by-days d) h = absurd h
+turned-applies K (by-tolerance e) k h = rw (lt-leb e (K .top) (h .1)) refl
+turned-applies K (by-days d rows) k h = rw h refl
 
 pub others-apply : (K : Kind) (e : ℕ) → e ≤ K .top → applies K (by-tolerance e) ≡ some e
 unfolding applies
 others-apply K e h = rw (le-leb e (K .top) h) refl
+
+pub others-by-days : (K : Kind) (d : ℕ) (rows : List Row) → load-refusal rows ≡ none → applies K (by-days d rows) ≡ days-apply K d rows
+unfolding applies
+others-by-days K d rows h = rw h refl
 
 -- A tolerance that is applied is within the limit.
 pub applies-low : (K : Kind) (c : Call) (e : ℕ) → applies K c ≡ some e → e ≤ K .top
@@ -183,7 +202,11 @@ applies-low K (by-tolerance t) e h = go (test t (K .top)) h
     go : {b : Bool} → Test t (K .top) b → cond b (some t) none ≡ some e → e ≤ K .top
     go (holds g) h = let z : t ≡ e = cc in omega arith
     go (fails g) h = absurd (some-none (sym h))
-applies-low K (by-days d) e h = days-low K d e h
+applies-low K (by-days d rows) e h = go (load-refusal rows) h
+  where
+    go : (r : Option ℕ) → unless r none (days-apply K d rows) ≡ some e → e ≤ K .top
+    go none h = days-low K d e rows h
+    go (some k) h = absurd (some-none (sym h))
 
 -- What a call leaves of an accepted record is one again, of the same kind, and bytes.
 pub record StillAccepted (b c : List ℕ) : Type 0 where

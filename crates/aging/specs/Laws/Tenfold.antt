@@ -14,19 +14,22 @@ use Rattle.distance.specs.Laws.All.{All, all-none, all-more}
 use Rattle.format.specs.Kinds.{Kind, trail, millimetre-trail}
 use Rattle.format.specs.Format.{never, mark-field, fixes}
 use Rattle.format.specs.Laws.RoundTrip.{AreBytes}
-use Rattle.record.specs.Answers.{gives}
+use Rattle.record.specs.Checks.{Row, load-refusal}
+use Rattle.record.specs.Answers.{gives, unless}
 use Rattle.record.specs.Tenfold.{tenfold-mark, Tenfold}
 use Rattle.record.specs.Laws.Accepted.{GoodMark, mark-applied, mark-never-applied, accepted-good}
 use Rattle.record.specs.Laws.Tenfold.{tenfold-mark-never, tenfold-mark-applied}
+use Rattle.table.specs.Table.{last-row}
 use Rattle.thinning.specs.Thinning.{thinning, Thinned}
 use Rattle.thinning.specs.Marks.{kept-by}
 use Rattle.thinning.specs.Laws.KeptBy.{same-positions}
 use Rattle.thinning.specs.Laws.Mapped.{mapped}
 use Rattle.thinning.specs.Laws.Tenfold.{thinning-scaled}
-use Rattle.aging.specs.Aging.{Row, Call, by-tolerance, left-by, answered, new-mark, thinned-record, day-table, last-row, in-unit, days-apply, count-at, record-at, applies}
-use Rattle.aging.specs.Tenfold.{ten-times, TenfoldCall, at-ten-times, by-same-days, both-too-high}
-use Rattle.aging.specs.Laws.Aging.{age-none, age-10, age-refused, age-done, days-done}
-use Rattle.aging.specs.Laws.Step.{thins, step, applies-low, too-high-applies, others-apply}
+use Rattle.aging.specs.Aging.{Call, by-tolerance, by-days, left-by, answered, new-mark, thinned-record, in-unit, days-apply, count-at, record-at, applies}
+use Rattle.aging.specs.Tenfold.{ten-times, TenfoldCall, at-ten-times, by-same-days, by-refused-table, both-too-high}
+use Rattle.aging.specs.Laws.Aging.{age-none, age-10, age-refused, age-done}
+use Rattle.aging.specs.Laws.Days.{days-loading, days-refused, days-done}
+use Rattle.aging.specs.Laws.Step.{thins, step, applies-low, turned-applies, others-apply}
 
 -- ---- by days: a row times ten is a tolerance of kind 2, so that the lesser of the two is the row times ten
 abbrev Tens : Option ℕ → Type 0
@@ -44,15 +47,20 @@ rows-tenfold (all-more {m = r} g t) so-far h days = rows-tenfold t (cond (leb (r
     go true = row-tenfold (r .row-tolerance) g
     go false = h
 
-days-tenfold : (days : ℕ) → days-apply millimetre-trail days ≡ ten-times (days-apply trail days)
-days-tenfold days = rows-tenfold {rows = day-table} (all-more (omega arith) (all-more (omega arith) (all-more (omega arith) (all-more (omega arith) all-none)))) none refl days
+days-tenfold : (days : ℕ) {rows : List Row} → All (λ (r : Row). 10 * r .row-tolerance ≤ millimetre-trail .top) rows → days-apply millimetre-trail days rows ≡ ten-times (days-apply trail days rows)
+days-tenfold days g = rows-tenfold g none refl days
 
 -- ---- WHAT A CALL APPLIES: ten times as much
 pub applies-tenfold : {q r : Call} → TenfoldCall q r → applies millimetre-trail r ≡ ten-times (applies trail q)
 unfolding applies
 applies-tenfold (at-ten-times {e} h) = others-apply millimetre-trail (10 * e) h ∙ ap ten-times (sym (others-apply trail e (omega arith)))
-applies-tenfold (by-same-days {days}) = days-tenfold days
-applies-tenfold (both-too-high {e} {d} h k) = too-high-applies millimetre-trail (by-tolerance d) k ∙ ap ten-times (sym (too-high-applies trail (by-tolerance e) h))
+applies-tenfold (by-same-days {days} {rows} g) = go (load-refusal rows)
+  where
+    go : (r : Option ℕ) → unless r none (days-apply millimetre-trail days rows) ≡ ten-times (unless r none (days-apply trail days rows))
+    go none = days-tenfold days g
+    go (some k) = refl
+applies-tenfold (by-refused-table {days} {k} {rows} h) = turned-applies millimetre-trail (by-days days rows) k h ∙ ap ten-times (sym (turned-applies trail (by-days days rows) k h))
+applies-tenfold (both-too-high {e} {d} h k) = turned-applies millimetre-trail (by-tolerance d) 10 (refl, k) ∙ ap ten-times (sym (turned-applies trail (by-tolerance e) 10 (refl, h)))
 
 -- ---- the mark
 mark-again : {m : ℕ} (e : ℕ) → GoodMark (trail .top) m → 10 * e ≤ millimetre-trail .top → new-mark (tenfold-mark m) (10 * e) ≡ tenfold-mark (new-mark m e)
@@ -70,14 +78,25 @@ module _ (b c : List ℕ) (t : Tenfold b c) where
   count-tenfold none = refl
   count-tenfold (some e) = ap (λ (m : Thinned Fix). m .count) (thinning-tenfold e)
 
+  -- a table that is turned away is turned away for both
+  table-tenfold : (days k : ℕ) (rows : List Row) → load-refusal rows ≡ some k → answered c (by-days days rows) ≡ answered b (by-days days rows)
+  table-tenfold days k rows h =
+      sym (days-refused c days rows k (days-loading c rows (t .accepted-tenfold .accepted) ∙ h) .0)
+      ∙ days-refused b days rows k (days-loading b rows (t .accepted-before .accepted) ∙ h) .0
+
   -- the count, or the refusal
   answered-tenfold : {q r : Call} → TenfoldCall q r → answered c r ≡ answered b q
   answered-tenfold (at-ten-times {e} h) =
       sym (age-done c (10 * e) (age-none c (10 * e) (t .accepted-tenfold .accepted) (rw (t .kind-tenfold) h)) .0)
       ∙ ap gives (count-tenfold (some e)) ∙ age-done b e (age-none b e (t .accepted-before .accepted) (rw (t .kind-before) (omega arith))) .0
-  answered-tenfold (by-same-days {days}) =
-      sym (days-done c days (ten-times (days-apply trail days)) (rw (t .kind-tenfold) (days-tenfold days)) (t .accepted-tenfold .accepted) .0)
-      ∙ ap gives (count-tenfold (days-apply trail days)) ∙ days-done b days (days-apply trail days) (rw (t .kind-before) refl) (t .accepted-before .accepted) .0
+  answered-tenfold (by-same-days {days} {rows} g) = go (load-refusal rows) refl
+    where
+      go : (r : Option ℕ) → load-refusal rows ≡ r → answered c (by-days days rows) ≡ answered b (by-days days rows)
+      go (some k) h = table-tenfold days k rows h
+      go none h =
+          sym (days-done c days rows (ten-times (days-apply trail days rows)) (rw (t .kind-tenfold) (days-tenfold days g)) (days-loading c rows (t .accepted-tenfold .accepted) ∙ h) .0)
+          ∙ ap gives (count-tenfold (days-apply trail days rows)) ∙ days-done b days rows (days-apply trail days rows) (rw (t .kind-before) refl) (days-loading b rows (t .accepted-before .accepted) ∙ h) .0
+  answered-tenfold (by-refused-table {days} {k} {rows} h) = table-tenfold days k rows h
   answered-tenfold (both-too-high {e} {d} h k) =
       sym (age-refused c d 10 (age-10 c d (t .accepted-tenfold .accepted) (rw (t .kind-tenfold) k)) .0)
       ∙ age-refused b e 10 (age-10 b e (t .accepted-before .accepted) (rw (t .kind-before) h)) .0

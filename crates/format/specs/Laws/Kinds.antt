@@ -15,7 +15,7 @@ use Rattle.format.specs.Format.{kind-field, kind-of, record-length}
 
 -- WHAT EVERY KIND KEEPS TO, so that laws about any kind can use it: a fix is its time, two coordinates and its silence; its numbers are of few bytes; a place
 -- within the limit, of which there are others than 0, fits a coordinate's bytes and is no further from 0 than the widest; `never` is no tolerance; and a
--- centimetre is so few of its unit that a row of the days' table fits 32 bits in it.
+-- centimetre is so few of its unit that a tolerance of 16 bits, as a table's row has, fits 32 bits in it.
 pub record IsKind (K : Kind) : Type 0 where
   pub size-is : K .size ≡ 4 + 2 * K .width + K .silence-width
   pub some-width : 1 ≤ K .width

@@ -4,12 +4,11 @@ use mathlib.Core.Logic.{_⊎_, inl, inr, ⊎-elim}
 use mathlib.Core.Bool.{Bool}
 use mathlib.Core.List.{List, [], _∷_, _++_}
 use mathlib.Core.Option.{Option, some, none}
-use Prim.Native.Nat.{ℕ, _+_, _-_, _%_, _<_, _≤_, max}
+use Prim.Native.Nat.{ℕ, _+_, _-_, _<_, _≤_, max}
 use native.Mathlib.Omega.{arith}
-use lib.ListN.{length, getD, take, drop}
-use lib.Seq.{drop-drop, take-suc, take-all}
-use native.Mathlib.Numerals.{add-one}
-use borrow.Author.Tests.{ne-eqb, lt-ltb, le-ltb}
+use lib.ListN.{length, drop}
+use lib.Seq.{drop-drop}
+use borrow.Author.Tests.{ne-eqb}
 use Rattle.distance.specs.Fix.{Fix, Rising}
 use Rattle.distance.specs.Place.{Time, place, Near}
 use Rattle.distance.specs.Integers.Tests.{Test, holds, fails, test}
@@ -25,11 +24,11 @@ use Rattle.record.specs.Laws.First.{some-none}
 use Rattle.format.specs.Laws.RoundTrip.{AreBytes}
 use Rattle.record.specs.Laws.Accepted.{accepted-good}
 use Rattle.thinning.specs.Thinning.{thinned}
-use Rattle.aging.specs.Aging.{Call, by-tolerance, by-days, left-by, answered, applies, new-mark, record-at, thinned-record}
+use Rattle.aging.specs.Aging.{Call, left-by, answered, applies, new-mark, record-at, thinned-record}
 use Rattle.thinning.specs.Laws.Trail.{again, no-more}
 use Rattle.thinning.specs.Laws.Near.{thinned-near}
 use Rattle.aging.specs.Laws.Step.{thins, step, left-refused, applies-low}
-use Rattle.questions.specs.Agings.{run, Book, new-book, greater, fed, fed-all, kept-at, mark-of, counts-as, AskedOf, call-of, calls-of, one-if-refused, refused-calls, run-answer}
+use Rattle.questions.specs.Agings.{run, Book, new-book, greater, fed, fed-all, kept-at, mark-of, counts-as, AskedOf, one-if-refused, refused-calls, run-answer}
 
 -- ---- what the buffer is after some of the calls: b is the original's buffer, c the present one
 pub record State (b c : List ℕ) (E : Option ℕ) : Type 0 where
@@ -174,53 +173,21 @@ E-applied k [] = inl refl
 E-applied k (c ∷ calls) =
     ⊎-elim (λ h. ⊎-elim (λ g. inl (h ∙ g)) (λ g. inr (this-call (g ∙ sym h))) (greater-one (k .E) (applies (k .kind) c))) (λ a. inr (later-call a)) (E-applied (fed k c) calls)
 
--- ---- calls as numbers
-pub is-tolerance : (n : ℕ) → n < 65536 → call-of n ≡ by-tolerance n
-unfolding call-of
-is-tolerance n h = rw (lt-ltb n 65536 h) refl
-
-pub is-days : (n : ℕ) → 65536 ≤ n → call-of n ≡ by-days (n % 65536)
-unfolding call-of
-is-days n h = rw (le-ltb n 65536 h) refl
-
--- a call with an argument of 16 bits
-pub data SixteenBits : Call → Type 0 where
-  tolerance-16 : {e : ℕ} → e < 65536 → SixteenBits (by-tolerance e)
-  days-16 : {d : ℕ} → d < 65536 → SixteenBits (by-days d)
-
-pub number-of : {c : Call} → SixteenBits c → (n : ℕ) × (n < 131072) × (call-of n ≡ c)
-number-of (tolerance-16 {e} h) = (e, omega arith, is-tolerance e h)
-number-of (days-16 {d} h) = let m : (65536 + d) % 65536 ≡ d = omega arith in (65536 + d, omega arith, is-days (65536 + d) (omega arith) ∙ ap by-days m)
-
--- and of a whole list
-pub numbers-of : {calls : List Call} → All SixteenBits calls → (l : List ℕ) × All (λ (n : ℕ). n < 131072) l × (calls-of l ≡ calls)
-unfolding calls-of
-numbers-of all-none = ([], all-none, refl)
-numbers-of (all-more h hs) =
-    let one = number-of h in
-    let rest = numbers-of hs in
-    (one .0 ∷ rest .0, all-more (one .1) (rest .1), rw (one .2, rest .2) refl)
-
--- one call more, at the end
-calls-more : (l : List ℕ) (n : ℕ) → calls-of (l ++ n ∷ []) ≡ calls-of l ++ call-of n ∷ []
-unfolding calls-of
-calls-more [] n = refl
-calls-more (m ∷ l) n = ap (λ (r : List Call). call-of m ∷ r) (calls-more l n)
-
-run-more : (b : List ℕ) (l : List Call) (c : Call) → run b (l ++ c ∷ []) ≡ left-by (run b l) c
+-- ---- one call more, at the end
+pub run-more : (b : List ℕ) (l : List Call) (c : Call) → run b (l ++ c ∷ []) ≡ left-by (run b l) c
 unfolding run
 run-more b [] c = refl
 run-more b (d ∷ l) c = run-more (left-by b d) l c
 
-pub run-none : (b l : List ℕ) → b ≡ run b (calls-of (take 0 l))
-unfolding run calls-of
-run-none b l = refl
+-- the calls that were turned away are counted one after the other
+pub refused-more : (b : List ℕ) (l : List Call) (c : Call) → refused-calls b (l ++ c ∷ []) ≡ refused-calls b l + one-if-refused (answered (run b l) c)
+unfolding refused-calls run
+refused-more b [] c = omega arith
+refused-more b (d ∷ l) c = omega (arith, refused-more (left-by b d) l c)
 
-pub run-next : (b l : List ℕ) (i : ℕ) → i < length l → left-by (run b (calls-of (take i l))) (call-of (getD l i 0)) ≡ run b (calls-of (take (i + 1) l))
-run-next b l i h = sym (rw (add-one, take-suc l i 0 h, calls-more (take i l) (getD l i 0)) (run-more b (calls-of (take i l)) (call-of (getD l i 0))))
-
-pub run-all : (b l : List ℕ) (i : ℕ) → length l ≤ i → run b (calls-of (take i l)) ≡ run b (calls-of l)
-run-all b l i h = rw (take-all i l h) refl
+pub at-most-one : (a : Answer ℕ) → one-if-refused a ≤ 1
+at-most-one (gives n) = omega arith
+at-most-one (turns-away k) = omega arith
 
 -- ---- what the list answers: a refused record is left as it is by every call ..
 pub run-refused : (b : List ℕ) (k : ℕ) (calls : List Call) → read-refusal b ≡ some k → run b calls ≡ b
@@ -229,29 +196,8 @@ run-refused b k [] h = refl
 run-refused b k (c ∷ calls) h = ap (λ (l : List ℕ). run l calls) (left-refused b k c h) ∙ run-refused b k calls h
 
 -- .. and so is what the call answers and leaves
-pub refused-run : (b l : List ℕ) (k : ℕ) → read-refusal b ≡ some k → (turns-away k ≡ run-answer b (calls-of l)) × (b ≡ run b (calls-of l))
-refused-run b l k h = (rw h refl, sym (run-refused b k (calls-of l) h))
+pub refused-run : (b : List ℕ) (k : ℕ) (calls : List Call) → read-refusal b ≡ some k → (turns-away k ≡ run-answer b calls) × (b ≡ run b calls)
+refused-run b k calls h = (rw h refl, sym (run-refused b k calls h))
 
-pub made-run : (b l c : List ℕ) (n : ℕ) → read-refusal b ≡ none → n ≡ refused-calls b (calls-of l) → c ≡ run b (calls-of l) → (gives n ≡ run-answer b (calls-of l)) × (c ≡ run b (calls-of l))
-made-run b l c n h e f = (rw (h, e) refl, f)
-
--- .. and the calls that were turned away are counted one after the other
-refused-more : (b : List ℕ) (l : List Call) (c : Call) → refused-calls b (l ++ c ∷ []) ≡ refused-calls b l + one-if-refused (answered (run b l) c)
-unfolding refused-calls run
-refused-more b [] c = omega arith
-refused-more b (d ∷ l) c = omega (arith, refused-more (left-by b d) l c)
-
-pub refused-first : (b l : List ℕ) → 0 ≡ refused-calls b (calls-of (take 0 l))
-unfolding refused-calls calls-of
-refused-first b l = refl
-
-pub refused-next : (b l : List ℕ) (i : ℕ) → i < length l
-    → refused-calls b (calls-of (take i l)) + one-if-refused (answered (run b (calls-of (take i l))) (call-of (getD l i 0))) ≡ refused-calls b (calls-of (take (i + 1) l))
-refused-next b l i h = sym (rw (add-one, take-suc l i 0 h, calls-more (take i l) (getD l i 0)) (refused-more b (calls-of (take i l)) (call-of (getD l i 0))))
-
-pub refused-all : (b l : List ℕ) (i : ℕ) → length l ≤ i → refused-calls b (calls-of (take i l)) ≡ refused-calls b (calls-of l)
-refused-all b l i h = rw (take-all i l h) refl
-
-pub at-most-one : (a : Answer ℕ) → one-if-refused a ≤ 1
-at-most-one (gives n) = omega arith
-at-most-one (turns-away k) = omega arith
+pub made-run : (b c : List ℕ) (n : ℕ) (calls : List Call) → read-refusal b ≡ none → n ≡ refused-calls b calls → c ≡ run b calls → (gives n ≡ run-answer b calls) × (c ≡ run b calls)
+made-run b c n calls h e f = (rw (h, e) refl, f)

@@ -8,13 +8,13 @@ use Prim.Native.Nat.{ℕ}
 use native.Mathlib.Omega.{arith}
 use Rattle.format.specs.Kinds.{Kind}
 use Rattle.record.specs.Answers.{gives, answer}
-use Rattle.record.specs.Checks.{Check, Given, Asked, number, order, first, FirstHolds, this, not-before, sentence, refusal, refusal-of, reading, writing, aging, aging-by-days, placing, crossing, read-refusal}
+use Rattle.record.specs.Checks.{Check, Given, Asked, number, order, first, FirstHolds, this, not-before, sentence, refusal, refusal-of, reading, writing, aging, aging-by-days, placing, crossing, loading, read-refusal}
 
 pub some-none : {k : ℕ} → some k ≡ none → ⊥
 some-none e = let z : _≡_ {A = ℕ} 0 1 = cc in omega arith
 
 -- the checks in their order have the documents' numbers
-pub order-numbers : map number order ≡ 1 ∷ 2 ∷ 3 ∷ 4 ∷ 5 ∷ 6 ∷ 7 ∷ 8 ∷ 9 ∷ 20 ∷ 10 ∷ 11 ∷ 12 ∷ 21 ∷ 13 ∷ 14 ∷ 15 ∷ []
+pub order-numbers : map number order ≡ 1 ∷ 2 ∷ 3 ∷ 4 ∷ 5 ∷ 6 ∷ 7 ∷ 8 ∷ 9 ∷ 20 ∷ 22 ∷ 23 ∷ 10 ∷ 11 ∷ 12 ∷ 21 ∷ 13 ∷ 14 ∷ 15 ∷ []
 order-numbers = refl
 
 module _ (says : Check → Bool) where
@@ -103,9 +103,14 @@ pub reading-alone : (b : List ℕ) (g : Given) → refusal-of reading b g ≡ re
 unfolding first sentence
 reading-alone b g = refl
 
-pub days-alone : (b : List ℕ) (g : Given) → refusal-of aging-by-days b g ≡ read-refusal b
+pub days-alone : (b : List ℕ) (g h : Given) → g .table ≡ h .table → refusal-of aging-by-days b g ≡ refusal-of aging-by-days b h
 unfolding first sentence
-days-alone b g = refl
+days-alone b g h e = rw e refl
+
+-- loading looks at no bytes
+pub loading-alone : (b c : List ℕ) (g h : Given) → g .table ≡ h .table → refusal-of loading b g ≡ refusal-of loading c h
+unfolding first sentence
+loading-alone b c g h e = rw e refl
 
 pub aging-alone : (b : List ℕ) (g h : Given) → g .tolerance ≡ h .tolerance → refusal-of aging b g ≡ refusal-of aging b h
 unfolding first sentence

@@ -1,6 +1,6 @@
 -- The kind decides nothing where no kind has the number that stands there.
 use mathlib.Core.Path.{_≡_, refl}
-use mathlib.Core.Bool.{false, cond}
+use mathlib.Core.Bool.{true, false, cond}
 use mathlib.Core.List.{List}
 use mathlib.Core.Option.{some, none}
 use Prim.Native.Nat.{ℕ}
@@ -8,16 +8,19 @@ use lib.Dec.{ltb}
 use lib.ListN.{length}
 use Rattle.format.specs.Kinds.{Kind, kinds, coded}
 use Rattle.format.specs.Format.{kind-field}
-use Rattle.record.specs.Checks.{Operation, reading, writing, aging, aging-by-days, placing, crossing, Given, first, sentence, asked-of, refusal}
+use Rattle.format.specs.Laws.Numbers.{false-true}
+use Rattle.record.specs.Checks.{Operation, reading, writing, aging, aging-by-days, placing, crossing, loading, makes, member, Given, first, sentence, asked-of, refusal}
 use Rattle.record.specs.Reading.{yields}
 use Rattle.record.specs.Laws.Reading.{stands-unknown, yields-none}
 
--- AN UNKNOWN KIND: whatever an operation over lent bytes is asked, and whatever stands in their other bytes, the answer is the refusal 1 or 2 ..
-pub unknown-kind : (o : Operation) (K : Kind) (b : List ℕ) (g : Given) → (o ≡ writing → ⊥) → coded kinds (kind-field b) ≡ false
+-- AN UNKNOWN KIND: whatever an operation over a record's bytes, which makes check 2, is asked, and whatever stands in their other bytes, the answer is the refusal
+-- 1 or 2 ..
+pub unknown-kind : (o : Operation) (K : Kind) (b : List ℕ) (g : Given) → member 2 (makes o) ≡ true → coded kinds (kind-field b) ≡ false
     → refusal K o (asked-of b g) ≡ cond (ltb (length b) 10) (some 1) (some 2)
 unfolding first sentence
 unknown-kind reading K b g w h = rw h refl
-unknown-kind writing K b g w h = absurd (w refl)
+unknown-kind writing K b g w h = absurd (false-true w)
+unknown-kind loading K b g w h = absurd (false-true w)
 unknown-kind aging K b g w h = rw h refl
 unknown-kind aging-by-days K b g w h = rw h refl
 unknown-kind placing K b g w h = rw h refl

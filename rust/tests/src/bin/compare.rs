@@ -27,15 +27,15 @@ fn main() -> ExitCode {
         proved: &proved,
         plain: &plain,
     };
-    let table = match run(settings, sides) {
-        Ok(table) => table,
+    let met = match run(settings, sides) {
+        Ok(met) => met,
         Err(case) => {
             show(&case);
             return ExitCode::FAILURE;
         }
     };
-    println!("{table}");
-    let missing = table.missing();
+    println!("{met}");
+    let missing = met.missing();
     for what in &missing {
         println!("never met: {what}");
     }

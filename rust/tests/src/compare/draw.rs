@@ -6,10 +6,12 @@ use crate::cases::{Draft, Random};
 use crate::columns::Columns;
 use crate::plain::crossing::Question;
 use crate::plain::kinds::{Kind, KINDS};
-use crate::plain::lists::Call;
+use crate::plain::lists::{Call, List};
+use crate::plain::table::Table;
 use crate::plain::{read, Fix, Trail, MOST_FIXES, NEVER};
 use crate::questions::{Asked, Moment, Spoiled};
 use crate::shapes::{trail, SHAPES};
+use crate::tables::RowColumns;
 
 /// A case, and the kind that its record was made as, before it was damaged.
 pub struct Drawn {
@@ -26,20 +28,22 @@ pub fn drawn(random: &mut Random) -> Drawn {
 fn case(made: Kind, random: &mut Random) -> Case {
     let buffer = buffer(made, random);
     let kind = kind_of(&buffer, made);
-    let operation = match random.between(0, 10) {
+    let operation = match random.between(0, 12) {
         0 => Operation::Check,
         1 => Operation::Read(positions(random)),
         2 => return writing(made, random),
         3 => Operation::List,
         4 => Operation::Age(tolerance(kind, random)),
-        5 => Operation::Days(days(kind, random)),
-        6 => Operation::Run(calls(kind, random)),
+        5 => by_days(Operation::Days, random),
+        6 => Operation::Run(agings(kind, random)),
         7 => Operation::Place(asked::<Moment>(&buffer, &[11, 12, 21], random)),
         8 => Operation::Crosses(asked::<Question>(&buffer, &[13, 14], random)),
         9 => Operation::ReadAll(lent_columns(&buffer, random)),
+        10 => by_days(Operation::Apply, random),
+        11 => return loading(random),
         _ => {
             let question = asked::<Question>(&buffer, &[13, 14], random);
-            Operation::CrossesAfter(calls(kind, random), question)
+            Operation::CrossesAfter(agings(kind, random), question)
         }
     };
     Case { buffer, operation }
@@ -164,21 +168,25 @@ fn tolerance(kind: Kind, random: &mut Random) -> u16 {
     }
 }
 
-fn days(kind: Kind, random: &mut Random) -> u16 {
-    loop {
-        if let Call::Days(days) = Call::any(kind, random) {
-            return days;
-        }
+fn by_days(operation: fn(u16, Table) -> Operation, random: &mut Random) -> Operation {
+    let table = Table::any(random);
+    operation(table.days(random), table)
+}
+
+/// Rows to load, for which no buffer is lent.
+fn loading(random: &mut Random) -> Case {
+    Case {
+        buffer: Vec::new(),
+        operation: Operation::Load(RowColumns::any(random)),
     }
 }
 
 /// A list of agings, which may be empty and in few cases is long.
-fn calls(kind: Kind, random: &mut Random) -> Vec<u32> {
+fn agings(kind: Kind, random: &mut Random) -> List {
     let most = random.pick(&[3, 8, 8, 8, 40]);
     let many = random.between(0, most);
-    (0..many)
-        .map(|_| Call::any(kind, random).number(random))
-        .collect()
+    let calls: Vec<Call> = (0..many).map(|_| Call::any(kind, random)).collect();
+    List::lending(&calls, random)
 }
 
 /// A question of which two in three are good, and others have one of these faults or two.

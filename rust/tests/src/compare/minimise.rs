@@ -8,6 +8,9 @@ use crate::cases::Random;
 use crate::columns::Columns;
 use crate::plain::crossing::Question;
 use crate::plain::kinds::{Kind, CENTIMETRES};
+use crate::plain::lists::List;
+use crate::plain::table::{Table, NUMBERS};
+use crate::tables::RowColumns;
 
 /// How many bytes of buffers may be tried, with some more for each try.
 const EFFORT: usize = 50_000_000;
@@ -56,6 +59,10 @@ impl Search<'_> {
         self.shorten(Case::rows, Case::without_rows);
         self.shorten_columns();
         self.shorten(Case::listed, Case::without_listed);
+        self.shorten(Case::tables_lent, Case::without_tables);
+        self.shorten(Case::table_numbers, Case::without_table_numbers);
+        self.shorten_tables();
+        self.shorten(Case::loaded, Case::without_loaded);
         self.shorten(Case::rest, Case::without_rest);
         self.earlier();
         self.nearer_to_0();
@@ -66,7 +73,11 @@ impl Search<'_> {
     }
 
     /// Leaves out parts of a sequence: all, halves, and so on to single ones.
-    fn shorten(&mut self, length: fn(&Case) -> usize, without: fn(&Case, Range<usize>) -> Case) {
+    fn shorten(
+        &mut self,
+        length: impl Fn(&Case) -> usize,
+        without: impl Fn(&Case, Range<usize>) -> Case,
+    ) {
         let mut many = length(&self.case);
         while many > 0 {
             let mut from = 0;
@@ -99,6 +110,16 @@ impl Search<'_> {
             |case| case.filled().map_or(0, |columns| columns.silence.len()),
             |case, range| case.with_columns(|columns| cut(&mut columns.silence, &range)),
         );
+    }
+
+    /// Leaves out rows of each table that is handed over or lent to a list.
+    fn shorten_tables(&mut self) {
+        for k in 0..self.case.tables() {
+            self.shorten(
+                |case| case.table(k).rows.len().min(case.table(k).count.into()),
+                |case, range| case.without_rows_of(k, range),
+            );
+        }
     }
 
     /// Moves each fix and all that is later, the asked seconds too, closer to the time before it, or to 0.
@@ -292,8 +313,7 @@ impl Case {
     fn listed(&self) -> usize {
         match &self.operation {
             Operation::Read(positions) => positions.len(),
-            Operation::Run(calls) | Operation::CrossesAfter(calls, _) => calls.len(),
-            _ => 0,
+            _ => self.agings().map_or(0, |list| list.calls.len()),
         }
     }
 
@@ -301,8 +321,98 @@ impl Case {
         let mut case = self.clone();
         match &mut case.operation {
             Operation::Read(positions) => cut(positions, &range),
-            Operation::Run(calls) | Operation::CrossesAfter(calls, _) => cut(calls, &range),
+            Operation::Run(list) | Operation::CrossesAfter(list, _) => cut(&mut list.calls, &range),
             _ => {}
+        }
+        case
+    }
+
+    fn agings(&self) -> Option<&List> {
+        match &self.operation {
+            Operation::Run(list) | Operation::CrossesAfter(list, _) => Some(list),
+            _ => None,
+        }
+    }
+
+    fn with_agings(&self, change: impl FnOnce(&mut List)) -> Case {
+        let mut case = self.clone();
+        if let Operation::Run(list) | Operation::CrossesAfter(list, _) = &mut case.operation {
+            change(list);
+        }
+        case
+    }
+
+    /// How many numbers of tables a list is lent.
+    fn table_numbers(&self) -> usize {
+        self.agings().map_or(0, |list| list.tables.len())
+    }
+
+    fn without_table_numbers(&self, range: Range<usize>) -> Case {
+        self.with_agings(|list| cut(&mut list.tables, &range))
+    }
+
+    /// How many tables that is.
+    fn tables_lent(&self) -> usize {
+        self.table_numbers() / NUMBERS
+    }
+
+    /// So that the calls by later tables are by the same ones.
+    fn without_tables(&self, range: Range<usize>) -> Case {
+        let fewer = range.len() as u64;
+        let numbers = NUMBERS * range.start..NUMBERS * range.end;
+        self.without_table_numbers(numbers).with_agings(|list| {
+            let later = |call: &&mut u64| **call >> 16 > range.end as u64;
+            let later = list.calls.iter_mut().filter(later);
+            later.for_each(|call| *call -= fewer << 16);
+        })
+    }
+
+    /// How many tables there are, lent to a list or the one that is handed over.
+    fn tables(&self) -> usize {
+        match &self.operation {
+            Operation::Days(..) | Operation::Apply(..) => 1,
+            _ => self.tables_lent(),
+        }
+    }
+
+    fn table(&self, k: usize) -> Table {
+        match &self.operation {
+            Operation::Days(_, table) | Operation::Apply(_, table) => *table,
+            _ => self
+                .agings()
+                .map_or(Table::default(), |list| list.table(k as u64)),
+        }
+    }
+
+    /// So that the later rows follow the earlier ones.
+    fn without_rows_of(&self, k: usize, range: Range<usize>) -> Case {
+        let mut shorter = self.table(k);
+        shorter.rows[range.start..].rotate_left(range.len());
+        shorter.count -= range.len() as u16;
+        let mut case = self.with_agings(|list| {
+            let numbers = list.tables.chunks_exact_mut(NUMBERS).nth(k);
+            let numbers = numbers.into_iter().flatten().zip(shorter.numbers());
+            numbers.for_each(|(number, other)| *number = other);
+        });
+        if let Operation::Days(_, table) | Operation::Apply(_, table) = &mut case.operation {
+            *table = shorter;
+        }
+        case
+    }
+
+    /// How many rows there are to load, by the longer column.
+    fn loaded(&self) -> usize {
+        match &self.operation {
+            Operation::Load(RowColumns { days, tolerances }) => days.len().max(tolerances.len()),
+            _ => 0,
+        }
+    }
+
+    fn without_loaded(&self, range: Range<usize>) -> Case {
+        let mut case = self.clone();
+        if let Operation::Load(RowColumns { days, tolerances }) = &mut case.operation {
+            cut(days, &range);
+            cut(tolerances, &range);
         }
         case
     }
@@ -507,19 +617,40 @@ impl Case {
                 x.iter_mut().chain(y).for_each(|n| visit(n, change));
                 silence.iter_mut().for_each(|n| visit(n, change));
             }
-            Operation::Age(n) | Operation::Days(n) => visit(n, change),
-            Operation::Run(calls) => calls.iter_mut().for_each(|n| visit(n, change)),
+            Operation::Age(n) => visit(n, change),
+            Operation::Load(RowColumns { days, tolerances }) => {
+                let both = days.iter_mut().chain(tolerances);
+                both.for_each(|n| visit(n, change));
+            }
+            Operation::Days(n, table) | Operation::Apply(n, table) => {
+                visit(n, change);
+                visit_table(table, change);
+            }
+            Operation::Run(list) => visit_list(list, change),
             Operation::Place(moment) => {
                 visit(&mut moment.second, change);
                 visit(&mut moment.thousandths, change);
             }
             Operation::Crosses(question) => visit_question(question, change),
-            Operation::CrossesAfter(calls, question) => {
-                calls.iter_mut().for_each(|n| visit(n, change));
+            Operation::CrossesAfter(list, question) => {
+                visit_list(list, change);
                 visit_question(question, change);
             }
         }
     }
+}
+
+fn visit_table(table: &mut Table, change: Visit) {
+    visit(&mut table.count, change);
+    for row in &mut table.rows {
+        visit(&mut row.day, change);
+        visit(&mut row.tolerance, change);
+    }
+}
+
+fn visit_list(list: &mut List, change: Visit) {
+    list.calls.iter_mut().for_each(|n| visit(n, change));
+    list.tables.iter_mut().for_each(|n| visit(n, change));
 }
 
 fn visit_question(question: &mut Question, change: Visit) {

@@ -7,7 +7,7 @@ use super::{Case, Operation, Outcome, Reply};
 use crate::columns::Columns;
 use crate::plain::crossing::{Area, Question};
 use crate::plain::kinds::{Kind, CENTIMETRES, MILLIMETRES, SILENCES};
-use crate::plain::lists::Call;
+use crate::plain::lists::{Call, List};
 use crate::plain::{read, Trail, NEVER};
 use crate::shapes::so_many_times;
 
@@ -24,7 +24,7 @@ pub fn differing(side: &dyn Fn(&Case) -> Outcome, case: &Case) -> Option<Case> {
 }
 
 /// The case of this kind. It has none if its record isn't accepted or isn't in centimetres, if a tolerance or an edge
-/// isn't one any more, and if it is a listing, which has its places in digits.
+/// isn't one any more, also what days apply, and if it is a listing, which has its places in digits, or has no record.
 pub(super) fn recast(case: &Case, kind: Kind) -> Option<Case> {
     let operation = asked(&case.operation, kind)?;
     let buffer = match &case.operation {
@@ -60,13 +60,28 @@ fn tolerance(e: u16, kind: Kind) -> Option<u16> {
     e.checked_mul(kind.times).filter(|e| *e <= kind.top)
 }
 
-/// The numbers of a list of agings: of days they stay.
-fn calls(numbers: &[u32], kind: Kind) -> Option<Vec<u32>> {
-    let call = |&number: &u32| match Call::of(number) {
-        Call::Tolerance(e) => tolerance(e, kind).map(u32::from),
-        Call::Days(_) => Some(number),
+/// An aging of this kind, if it has what the aging applies: by days it is by as many and by the same table.
+fn aging(call: Call, kind: Kind) -> Option<Call> {
+    match call {
+        Call::Tolerance(e) => tolerance(e, kind).map(Call::Tolerance),
+        Call::Days(..) => match call.applies(CENTIMETRES) {
+            Ok(Some(e)) => tolerance(e, kind).map(|_| call),
+            _ => Some(call),
+        },
+    }
+}
+
+/// A list of agings, in which days and tables stay.
+fn agings(list: &List, kind: Kind) -> Option<List> {
+    let call = |&number: &u64| match aging(list.call(number), kind)? {
+        Call::Tolerance(e) => Some(e.into()),
+        Call::Days(..) => Some(number),
     };
-    numbers.iter().map(call).collect()
+    let calls: Option<Vec<u64>> = list.calls.iter().map(call).collect();
+    Some(List {
+        calls: calls?,
+        tables: list.tables.clone(),
+    })
 }
 
 fn question(question: &Question, kind: Kind) -> Option<Question> {
@@ -80,7 +95,7 @@ fn question(question: &Question, kind: Kind) -> Option<Question> {
 
 fn asked(operation: &Operation, to: Kind) -> Option<Operation> {
     Some(match operation {
-        Operation::List => return None,
+        Operation::List | Operation::Load(_) => return None,
         Operation::Write(kind, columns) if *kind == CENTIMETRES => {
             let mut columns = columns.clone();
             further(&mut columns, to, usize::MAX);
@@ -89,16 +104,18 @@ fn asked(operation: &Operation, to: Kind) -> Option<Operation> {
         }
         Operation::Write(..) => return None,
         Operation::Age(e) => Operation::Age(tolerance(*e, to)?),
-        Operation::Run(list) => Operation::Run(calls(list, to)?),
+        Operation::Run(list) => Operation::Run(agings(list, to)?),
         Operation::Crosses(asked) => Operation::Crosses(question(asked, to)?),
         Operation::CrossesAfter(list, asked) => {
-            Operation::CrossesAfter(calls(list, to)?, question(asked, to)?)
+            Operation::CrossesAfter(agings(list, to)?, question(asked, to)?)
         }
-        Operation::Check
-        | Operation::Read(_)
-        | Operation::ReadAll(_)
-        | Operation::Days(_)
-        | Operation::Place(_) => operation.clone(),
+        Operation::Days(days, table) | Operation::Apply(days, table) => {
+            aging(Call::Days(*days, *table), to)?;
+            operation.clone()
+        }
+        Operation::Check | Operation::Read(_) | Operation::ReadAll(_) | Operation::Place(_) => {
+            operation.clone()
+        }
     })
 }
 
@@ -172,6 +189,7 @@ impl Seen {
                 let times = i64::from(times);
                 (place.x, place.y) = (times * place.x, times * place.y);
             }
+            Reply::Applied(applied) => applied.tolerance *= u32::from(kind.times),
             _ => {}
         }
         Some(self)

@@ -20,7 +20,7 @@ pub struct Kind {
     pub limit: i32,
     /// the greatest tolerance, and the greatest mark but never
     pub top: u16,
-    /// what a row of the days' table is taken times
+    /// what a row of a table of days is taken times
     pub times: u16,
     /// the greatest denominator of a crossing's fraction
     pub denominator: u32,
@@ -80,7 +80,7 @@ impl Kind {
 
     /// Whether records of this kind can be turned away for it: checks 20 and 21 are about silences.
     pub fn can_fail(self, check: u32) -> bool {
-        self.silences || check < 20
+        self.silences || ![20, 21].contains(&check)
     }
 
     /// Whether a coordinate or an edge is beyond the limits.

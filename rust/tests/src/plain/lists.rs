@@ -3,42 +3,73 @@
 use super::crossing::{self, Question};
 use super::kinds::Kind;
 use super::place::Time;
-use super::thinning::{age, age_by_days, thin, tolerance_of};
+use super::table::{Table, NUMBERS};
+use super::thinning::{age, age_by_days, thin};
 use super::{read, Trail, NEVER};
 
-/// A call of aging, with its argument.
-#[derive(Clone, Copy, Debug)]
+/// A call of aging, with its argument, and by days with its table.
+#[derive(Clone, Copy, Debug, PartialEq, Eq)]
 pub enum Call {
     Tolerance(u16),
-    Days(u16),
+    Days(u16, Table),
 }
 
-impl Call {
-    /// The call that a number of a lent list is. Document 01 leaves the form open; `include/trails.h` has it.
-    pub fn of(number: u32) -> Call {
-        match u16::try_from(number) {
-            Ok(e) => Call::Tolerance(e),
-            Err(_) => Call::Days((number % 65_536) as u16),
+/// A list of calls as it is lent, with the numbers of the tables that it has. Document 01 leaves the form open;
+/// `include/trails.h` has it.
+#[derive(Clone, Debug, Default, PartialEq, Eq)]
+pub struct List {
+    pub calls: Vec<u64>,
+    pub tables: Vec<u16>,
+}
+
+impl List {
+    pub fn of_tolerances(tolerances: &[u16]) -> List {
+        List {
+            calls: tolerances.iter().copied().map(u64::from).collect(),
+            tables: Vec::new(),
         }
     }
 
-    pub fn all_of(numbers: &[u32]) -> Vec<Call> {
-        numbers.iter().copied().map(Call::of).collect()
+    /// The table with this number: "one of which not all 65 are lent is a table without rows".
+    pub fn table(&self, k: u64) -> Table {
+        let k = usize::try_from(k).unwrap_or(usize::MAX);
+        let lent = self.tables.chunks_exact(NUMBERS).nth(k);
+        lent.map_or(Table::default(), Table::of_numbers)
     }
 
+    /// The call that a number is.
+    pub fn call(&self, number: u64) -> Call {
+        match u16::try_from(number) {
+            Ok(e) => Call::Tolerance(e),
+            Err(_) => {
+                let table = self.table(number / 65_536 - 1);
+                Call::Days((number % 65_536) as u16, table)
+            }
+        }
+    }
+
+    /// All its calls, in order.
+    pub fn all(&self) -> Vec<Call> {
+        self.calls.iter().map(|&number| self.call(number)).collect()
+    }
+}
+
+impl Call {
     /// Makes the call.
     pub fn make(self, lent: &mut [u8]) -> Result<u32, u8> {
         match self {
             Call::Tolerance(e) => age(lent, e),
-            Call::Days(days) => age_by_days(lent, days),
+            Call::Days(days, table) => age_by_days(lent, days, &table),
         }
     }
 
-    /// The tolerance that it applies to an accepted record: none if it is refused, or if its days give none.
-    pub fn applies(self, kind: Kind) -> Option<u16> {
+    /// The tolerance that it applies to an accepted record of this kind, none if its days give none; or the check that
+    /// turns it away.
+    pub fn applies(self, kind: Kind) -> Result<Option<u16>, u8> {
         match self {
-            Call::Tolerance(e) => (e <= kind.top).then_some(e),
-            Call::Days(days) => tolerance_of(kind, days),
+            Call::Tolerance(e) if e > kind.top => Err(10),
+            Call::Tolerance(e) => Ok(Some(e)),
+            Call::Days(days, table) => table.gives(days, kind),
         }
     }
 }
@@ -76,9 +107,11 @@ impl Book {
         }
     }
 
+    /// "A call that one of its checks turns away leaves E."
     pub fn feed(&mut self, call: Call) {
+        let applied = call.applies(self.original.kind);
         // none is less than any tolerance
-        self.e = self.e.max(call.applies(self.original.kind));
+        self.e = self.e.max(applied.unwrap_or(None));
     }
 
     /// What is left after the calls.

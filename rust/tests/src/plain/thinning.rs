@@ -1,6 +1,6 @@
 //! A plain version of thinning and of aging.
 
-use super::kinds::Kind;
+use super::table::Table;
 use super::{read, refuse_if, stretches, Fix, Trail, NEVER};
 
 /// What a thinning keeps, and the count: one for each inner fix measured in each span examined.
@@ -117,22 +117,14 @@ pub fn age(lent: &mut [u8], e: u16) -> Result<u32, u8> {
     Ok(rewrite(lent, &trail, e))
 }
 
-/// The tolerance that days give, if they give one: the table's, and for kind 2 "the lesser of 60,000 and ten times the
-/// row".
-pub fn tolerance_of(kind: Kind, days: u16) -> Option<u16> {
-    let row: u16 = match days {
-        0..=1 => return None,
-        2..=6 => 10,
-        7..=29 => 25,
-        30..=89 => 100,
-        90.. => 400,
-    };
-    Some(kind.top.min(kind.times * row))
+/// What aging by days applies: checks 1 to 9 and 20, and "directly after" them 22 and 23.
+pub fn days_apply(lent: &[u8], days: u16, table: &Table) -> Result<Option<u16>, u8> {
+    let trail = read(lent)?;
+    table.gives(days, trail.kind)
 }
 
-/// Aging by days: checks 1 to 9 and 20.
-pub fn age_by_days(lent: &mut [u8], days: u16) -> Result<u32, u8> {
-    let trail = read(lent)?;
-    let aged = tolerance_of(trail.kind, days).map(|e| rewrite(lent, &trail, e));
-    Ok(aged.unwrap_or(0))
+/// Aging by days, which makes the same checks.
+pub fn age_by_days(lent: &mut [u8], days: u16, table: &Table) -> Result<u32, u8> {
+    let applied = days_apply(lent, days, table)?;
+    applied.map_or(Ok(0), |e| age(lent, e))
 }

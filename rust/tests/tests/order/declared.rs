@@ -25,13 +25,16 @@ fn text(path: &str) -> String {
 
 // ---- the header
 
+/// Nor what the compiler never sees, like a macro that takes parameters.
 fn without_comments(text: &str) -> String {
     let parts = text.split("/*").enumerate();
     let code = parts.map(|(k, part)| match part.split_once("*/") {
         Some((_, code)) if k > 0 => code,
         _ => part,
     });
-    code.collect()
+    let code: String = code.collect();
+    let lines = code.lines().filter(|line| !line.starts_with('#'));
+    lines.collect::<Vec<_>>().join("\n")
 }
 
 /// A C type in Rust's words: `const uint8_t *` is `*const u8`, and `struct trails_head` is `Head`.
@@ -77,6 +80,7 @@ fn c_function(declaration: &str) -> Option<Function> {
         parameters: after
             .trim_end_matches(')')
             .split(',')
+            .filter(|parameter| *parameter != "void")
             .map(c_parameter)
             .collect(),
         answer: kind(answer),

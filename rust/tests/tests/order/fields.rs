@@ -1,8 +1,9 @@
-//! The structs that functions answer: where Rust has their fields, and an answer as a list of numbers.
+//! The structs that functions take and answer: where Rust has their fields, and an answer as a list of numbers.
 
 use std::mem::{offset_of, size_of};
 
-use trails_tests::interface::{numbers, Answer, Crossing, Head, Place, Run, Step};
+use trails_tests::interface::{numbers, Answer, Applied, Crossing, Head, Loaded, Place};
+use trails_tests::interface::{Row, Run, Step, Table};
 use trails_tests::plain::place::Time;
 
 /// A struct of the header, and where Rust has its fields.
@@ -24,11 +25,15 @@ macro_rules! layout {
     };
 }
 
-pub fn layouts() -> [Layout; 6] {
+pub fn layouts() -> [Layout; 10] {
     [
         layout!("trails_head", Head: refusal, kind, count, mark),
         layout!("trails_step", Step: refusal, found, kind, t, x, y, silence),
         layout!("trails_answer", Answer: refusal, value),
+        layout!("trails_row", Row: day, tolerance),
+        layout!("trails_table", Table: count, rows),
+        layout!("trails_loaded", Loaded: refusal, table),
+        layout!("trails_applied", Applied: refusal, applies, tolerance),
         layout!("trails_run", Run: refusal, turned_away),
         layout!("trails_place", Place: refusal, denominator, x, y, whole_x, whole_y),
         layout!("trails_crossing", Crossing: refusal, crosses, numerator, denominator),
@@ -52,6 +57,19 @@ pub fn of_step(step: Step) -> Vec<i64> {
 
 pub fn of_answer(answer: Answer) -> Vec<i64> {
     vec![answer.refusal.into(), answer.value.into()]
+}
+
+pub fn of_table(table: Table) -> Vec<i64> {
+    table.numbers().map(i64::from).collect()
+}
+
+pub fn of_loaded(loaded: Loaded) -> Vec<i64> {
+    [vec![loaded.refusal.into()], of_table(loaded.table)].concat()
+}
+
+pub fn of_applied(applied: Applied) -> Vec<i64> {
+    let fields = [applied.refusal, applied.applies, applied.tolerance];
+    fields.map(i64::from).into()
 }
 
 pub fn of_run(run: Run) -> Vec<i64> {

@@ -5,9 +5,9 @@ use std::path::Path;
 
 use trails_tests::programs;
 
-use crate::declared::Function;
+use crate::declared::{Function, Parameter};
 use crate::fields::{by_value, layouts, Layout};
-use crate::lent::{arguments, Lent, CALLS, OUTPUT_BYTES};
+use crate::lent::{agings, arguments, rows, Lent, OUTPUT_BYTES, ROOM};
 
 /// What a C program prints, of which this is the part after the header.
 pub fn printed(name: &str, source: &str) -> String {
@@ -30,14 +30,18 @@ pub struct InC {
 impl InC {
     pub fn of(function: Function) -> InC {
         let given = arguments();
-        let argument = |name: &str| {
-            let found = given.iter().find(|(given, _)| *given == name);
+        let argument = |Parameter { name, kind }: &Parameter| {
+            // what is lent has its parameter's name
+            if kind.starts_with('*') {
+                return name.clone();
+            }
+            let found = given.iter().find(|(given, _)| given == name);
             let found = found.unwrap_or_else(|| panic!("{name} is given no value"));
             found.1.clone()
         };
         let arguments = function.parameters.iter();
         InC {
-            arguments: arguments.map(|one| argument(&one.name)).collect(),
+            arguments: arguments.map(argument).collect(),
             function,
         }
     }
@@ -50,8 +54,7 @@ impl InC {
         let Some(Layout { c, fields, .. }) = found else {
             return format!("{{ prepare(); size_t a = {call}; number(a); rest(); }}\n");
         };
-        let field = |(name, _): &(&str, usize)| format!("number((long long)a.{name}); ");
-        let fields: String = fields.iter().map(field).collect();
+        let fields: String = fields.iter().map(|(name, _)| field(name)).collect();
         format!("{{ prepare(); struct {c} a = {call}; {fields}rest(); }}\n")
     }
 
@@ -66,39 +69,64 @@ impl InC {
     }
 }
 
-fn array<T: ToString>(kind: &str, name: &str, numbers: &[T]) -> String {
-    let numbers: Vec<String> = numbers.iter().map(T::to_string).collect();
-    let many = numbers.len();
-    let list = numbers.join(", ");
-    format!("static const {kind} {name}_before[] = {{{list}}};\nstatic {kind} {name}[{many}];\n")
+/// Prints a field of an answer: its number, or all numbers that it has.
+fn field(name: &str) -> String {
+    match name {
+        "rows" => "rows(a.rows); ".to_string(),
+        "table" => "number(a.table.count); rows(a.table.rows); ".to_string(),
+        _ => format!("number((long long)a.{name}); "),
+    }
 }
 
-/// What each call prints when C makes them all.
-pub fn from_c(name: &str, calls: &[InC]) -> Vec<Vec<i64>> {
+/// An array with what it has before a call, and what puts that down again, with 0 after it.
+fn array<T: ToString>(kind: &str, name: &str, numbers: &[T]) -> [String; 2] {
+    let numbers: Vec<String> = numbers.iter().map(T::to_string).collect();
+    let list = numbers.join(", ");
+    let before = format!("static const {kind} {name}_before[] = {{{list}}};\n");
+    let clear = format!("    memset({name}, 0, sizeof {name});\n");
+    [
+        format!("{before}static {kind} {name}[{ROOM}];\n"),
+        format!("{clear}    memcpy({name}, {name}_before, sizeof {name}_before);\n"),
+    ]
+}
+
+/// All that is lent, and a function that puts it down.
+fn lent() -> String {
     let Lent {
         record, columns, ..
     } = Lent::new();
-    let (bytes, many) = (record.len(), columns.t.len());
-    let calls_in_order: String = calls.iter().map(InC::source).collect();
-    let source = [
+    let (list, rows) = (agings(), rows());
+    let arrays = [
         array("uint8_t", "record", &record),
         array("uint32_t", "t", &columns.t),
         array("int32_t", "x", &columns.x),
         array("int32_t", "y", &columns.y),
         array("uint8_t", "silence", &columns.silence),
-        array("uint32_t", "calls", &CALLS),
-        format!(
-            "static uint8_t output[TRAILS_TEXT];
+        array("uint64_t", "calls", &list.calls),
+        array("uint16_t", "tables", &list.tables),
+        array("uint16_t", "days", &rows.days),
+        array("uint16_t", "tolerances", &rows.tolerances),
+    ];
+    let [declared, prepared] = [0, 1].map(|k| arrays.each_ref().map(|array| &*array[k]).concat());
+    format!(
+        "{declared}static uint8_t output[TRAILS_TEXT];
 static void prepare(void) {{
-    memcpy(record, record_before, sizeof record);
-    memcpy(t, t_before, sizeof t);
-    memcpy(x, x_before, sizeof x);
-    memcpy(y, y_before, sizeof y);
-    memcpy(silence, silence_before, sizeof silence);
-    memcpy(calls, calls_before, sizeof calls);
-    memset(output, 0, sizeof output);
+{prepared}    memset(output, 0, sizeof output);
 }}
-static void number(long long n) {{ printf(\"%lld \", n); }}
+"
+    )
+}
+
+/// What prints a number, a table's rows, and all that may have been written.
+fn printing() -> String {
+    let Lent {
+        record, columns, ..
+    } = Lent::new();
+    let (bytes, many) = (record.len(), columns.t.len());
+    format!(
+        "static void number(long long n) {{ printf(\"%lld \", n); }}
+#define rows(of) for (unsigned k = 0; k < TRAILS_ROWS; k++) {{ \\
+    number((of)[k].day); number((of)[k].tolerance); }}
 static void rest(void) {{
     for (int k = 0; k < {bytes}; k++) number(record[k]);
     for (int k = 0; k < {many}; k++) number(t[k]);
@@ -108,13 +136,15 @@ static void rest(void) {{
     for (int k = 0; k < {OUTPUT_BYTES}; k++) number(output[k]);
     printf(\"\\n\");
 }}
-int main(void) {{
-{calls_in_order}return 0;
-}}
 "
-        ),
-    ];
-    let text = printed(name, &source.concat());
+    )
+}
+
+/// What each call prints when C makes them all.
+pub fn from_c(name: &str, calls: &[InC]) -> Vec<Vec<i64>> {
+    let in_order: String = calls.iter().map(InC::source).collect();
+    let main = format!("int main(void) {{\n{in_order}return 0;\n}}\n");
+    let text = printed(name, &[lent(), printing(), main].concat());
     let lines = calls.iter().zip(text.lines());
     let numbers: Vec<Vec<i64>> = lines.map(|(call, line)| call.numbers(line)).collect();
     assert_eq!(numbers.len(), calls.len(), "each call prints a line");

@@ -3,10 +3,13 @@
 //! No two values are so that exchanging them goes unseen, where their types would allow it.
 
 use trails_tests::columns::Columns;
-use trails_tests::interface::LONGEST_TEXT;
+use trails_tests::interface::{by_table, LONGEST_TEXT};
 use trails_tests::plain::crossing::{Area, Question, Window};
 use trails_tests::plain::kinds::SILENCES;
+use trails_tests::plain::lists::List;
+use trails_tests::plain::table::{Row, Table};
 use trails_tests::plain::{Fix, Trail};
+use trails_tests::tables::RowColumns;
 
 pub const POSITION: usize = 2;
 
@@ -18,12 +21,54 @@ pub const SECOND: u32 = 103;
 pub const THOUSANDTHS: u16 = 250;
 pub const OUTPUT_BYTES: usize = 40;
 
-/// A tolerance, one that is turned away, and days.
-pub const CALLS: [u32; 3] = [120, 60_001, 65_536 + 7];
-
-/// How many elements are lent of each column. All have one more than the longest, so that exchanging two of these
-/// numbers reaches no byte that isn't there.
+/// How many elements are lent of each column.
 pub const COUNTS: [usize; 4] = [1, 2, 3, 4];
+
+/// How many are lent of the columns of a table's rows.
+pub const ROW_COUNTS: [usize; 2] = [2, 3];
+
+/// How many elements everything has that is lent, so that exchanging two numbers of elements reaches none that isn't
+/// there.
+pub const ROOM: usize = 140;
+
+/// Rows of a hall's own table, as a list to load. Tolerances and days exchanged are a table too, and another one.
+const ROWS: [(u16, u16); 4] = [(3, 130), (9, 200), (10, 300), (12, 400)];
+
+pub fn table() -> Table {
+    Table::of(&ROWS.map(Row::from)[..2])
+}
+
+pub fn rows() -> RowColumns {
+    RowColumns::of(&ROWS.map(Row::from))
+}
+
+/// The parts of the rows that are lent.
+pub fn lent_rows() -> RowColumns {
+    let RowColumns { days, tolerances } = rows();
+    let [a, b] = ROW_COUNTS;
+    RowColumns {
+        days: days[..a].to_vec(),
+        tolerances: tolerances[..b].to_vec(),
+    }
+}
+
+/// A tolerance, one that is turned away, and days by the second table, which have a greater tolerance than the first
+/// call, and by the first table a lesser one.
+pub fn agings() -> List {
+    let tables = [Table::built_in(), table()].map(|table| table.numbers());
+    List {
+        calls: vec![TOLERANCE.into(), 60_001, by_table(1, DAYS)],
+        tables: tables.concat(),
+    }
+}
+
+/// The table, for C.
+fn table_in_c() -> String {
+    let row = |row: &Row| format!("{{{}, {}}}", row.day, row.tolerance);
+    let Table { count, rows } = table();
+    let rows: Vec<String> = rows.iter().map(row).collect();
+    format!("(struct trails_table){{{count}, {{{}}}}}", rows.join(", "))
+}
 
 /// The cart comes to the box from below, after it was beside it and under it: in the boxes that two exchanged edges give
 /// it is earlier or never. It was silent before, so that the kind is another number than what stands beside it, and a
@@ -57,14 +102,14 @@ const COLUMNS: [(u32, i32, i32, u8); 5] = [
     (11, 5, -9, 14),
 ];
 
-/// The argument of each parameter, for C.
+/// The argument of each parameter that isn't lent, for C.
 pub fn arguments() -> Vec<(&'static str, String)> {
     let Question { window, area } = QUESTION;
     let [t, x, y, silence] = COUNTS;
-    let lent = ["record", "t", "x", "y", "silence", "output", "calls"];
-    let mut all: Vec<_> = lent.map(|name| (name, name.to_string())).into();
-    all.extend([
-        ("lent", "sizeof record".to_string()),
+    let [day_count, tolerance_count] = ROW_COUNTS;
+    let List { calls, tables } = agings();
+    vec![
+        ("lent", Lent::new().record.len().to_string()),
         ("position", POSITION.to_string()),
         ("t_count", t.to_string()),
         ("x_count", x.to_string()),
@@ -75,15 +120,18 @@ pub fn arguments() -> Vec<(&'static str, String)> {
         ("days", DAYS.to_string()),
         ("second", SECOND.to_string()),
         ("thousandths", THOUSANDTHS.to_string()),
-        ("call_count", CALLS.len().to_string()),
+        ("table", table_in_c()),
+        ("day_count", day_count.to_string()),
+        ("tolerance_count", tolerance_count.to_string()),
+        ("call_count", calls.len().to_string()),
+        ("table_numbers", tables.len().to_string()),
         ("start", window.start.to_string()),
         ("end", window.end.to_string()),
         ("left", area.left.to_string()),
         ("right", area.right.to_string()),
         ("bottom", area.bottom.to_string()),
         ("top", area.top.to_string()),
-    ]);
-    all
+    ]
 }
 
 /// All that is lent to be written.

@@ -9,14 +9,14 @@ mod in_c;
 mod lent;
 
 use declared::{in_header, in_rust, Function};
-use fields::{
-    layouts, of_answer, of_crossing, of_head, of_place, of_run, of_step, of_time, Layout,
-};
+use fields::{layouts, of_answer, of_applied, of_crossing, of_head, of_loaded, of_place};
+use fields::{of_run, of_step, of_table, of_time, Layout};
 use in_c::{from_c, printed, InC};
-use lent::{Lent, BEFORE_SILENCE, CALLS, DAYS, OUTPUT_BYTES, POSITION, QUESTION, SECOND};
-use lent::{THOUSANDTHS, TOLERANCE};
+use lent::{agings, lent_rows, table, Lent, BEFORE_SILENCE, COUNTS, DAYS, OUTPUT_BYTES, POSITION};
+use lent::{QUESTION, ROW_COUNTS, SECOND, THOUSANDTHS, TOLERANCE};
 use trails_tests::plain::kinds::{Kind, CENTIMETRES, MILLIMETRES, SILENCES};
 use trails_tests::plain::lists::{self, Call};
+use trails_tests::plain::table::{Table, NUMBERS, ROWS};
 use trails_tests::plain::{self, crossing};
 use trails_tests::programs::project;
 use trails_tests::{expected, interface};
@@ -47,13 +47,35 @@ fn constants_are_the_documents() {
         ("NEVER", plain::NEVER.into()),
         ("LONGEST", plain::LONGEST),
         ("TEXT", interface::LONGEST_TEXT),
+        ("ROWS", ROWS),
+        ("TABLE_NUMBERS", NUMBERS),
     ];
+    assert_eq!(interface::ROWS, ROWS);
+    assert_eq!(interface::TABLE_NUMBERS, NUMBERS);
     let (mut source, mut want) = (String::from("int main(void) {\n"), String::new());
     for (name, number) in constants {
         source += &format!("printf(\"{name} %u\\n\", TRAILS_{name});\n");
         want += &format!("{name} {number}\n");
     }
     assert_eq!(printed("constants", &(source + "return 0;\n}\n")), want);
+}
+
+/// What a list has for days by a table, from C and from Rust, at the limits of both numbers.
+#[test]
+fn calls_by_a_table_have_one_number() {
+    let (mut source, mut want) = (String::from("int main(void) {\n"), String::new());
+    for k in [0, 1, 65_535, 1 << 32, (1_u64 << 48) - 2] {
+        for days in [0, 7, 65_535] {
+            let call = format!("TRAILS_BY_TABLE({k}u, {days})");
+            source += &format!("printf(\"%llu\\n\", (unsigned long long){call});\n");
+            let number = interface::by_table(k as usize, days);
+            let list = lists::List::default();
+            assert_eq!(list.call(number), Call::Days(days, Table::default()));
+            assert_eq!(number >> 16, k + 1);
+            want += &format!("{number}\n");
+        }
+    }
+    assert_eq!(printed("by_table", &(source + "return 0;\n}\n")), want);
 }
 
 /// The refusals stand in the header in checking order, each with a number of the documents.
@@ -64,7 +86,9 @@ fn refusals_stand_in_checking_order() {
     let (all, _) = after.split_once("};").expect("their end");
     let number = |line: &str| line.split_once(" = ").map(|(_, after)| first_number(after));
     let numbers: Vec<u32> = all.lines().filter_map(number).collect();
-    let order = [0, 1, 2, 3, 4, 5, 6, 7, 8, 9, 20, 10, 11, 12, 21, 13, 14, 15];
+    let order = [
+        0, 1, 2, 3, 4, 5, 6, 7, 8, 9, 20, 22, 23, 10, 11, 12, 21, 13, 14, 15,
+    ];
     assert_eq!(numbers, order);
 }
 
@@ -77,7 +101,7 @@ fn first_number(text: &str) -> u32 {
 fn plainly(name: &str) -> Vec<i64> {
     let mut lent = Lent::new();
     let record = &mut lent.record;
-    let calls = Call::all_of(&CALLS);
+    let list = agings();
     let answer = match name {
         "trails_check" => of_head(expected::check(record)),
         "trails_read" => of_step(expected::read(record, POSITION)),
@@ -91,11 +115,14 @@ fn plainly(name: &str) -> Vec<i64> {
             vec![text.len() as i64]
         }
         "trails_age" => of_answer(expected::aging(record, Call::Tolerance(TOLERANCE))),
-        "trails_age_by_days" => of_answer(expected::aging(record, Call::Days(DAYS))),
+        "trails_load" => of_loaded(expected::load(&lent_rows())),
+        "trails_built_in" => of_table(interface::handed(&Table::built_in())),
+        "trails_age_by_days" => of_answer(expected::aging(record, Call::Days(DAYS, table()))),
+        "trails_days_apply" => of_applied(expected::days_apply(record, DAYS, &table())),
         "trails_place" => of_place(expected::place(record, SECOND, THOUSANDTHS)),
         "trails_crosses" => of_time(crossing::crosses(record, &QUESTION)),
-        "trails_run" => of_run(expected::run(record, &CALLS)),
-        "trails_crosses_after" => of_time(lists::crosses_after(record, &calls, &QUESTION)),
+        "trails_run" => of_run(expected::run(record, &list)),
+        "trails_crosses_after" => of_time(lists::crosses_after(record, &list.all(), &QUESTION)),
         other => panic!("{other} isn't tried here"),
     };
     [answer, lent.numbers()].concat()
@@ -142,11 +169,16 @@ fn from_rust(name: &str) -> Vec<i64> {
         }
         "trails_list" => vec![interface::list(record, &mut lent.output) as i64],
         "trails_age" => of_answer(interface::age(record, TOLERANCE)),
-        "trails_age_by_days" => of_answer(interface::age_by_days(record, DAYS)),
+        "trails_load" => of_loaded(interface::load(&lent_rows())),
+        "trails_built_in" => of_table(interface::built_in()),
+        "trails_age_by_days" => of_answer(interface::age_by_days(record, DAYS, &table())),
+        "trails_days_apply" => of_applied(interface::days_apply(record, DAYS, &table())),
         "trails_place" => of_place(interface::place(record, SECOND, THOUSANDTHS)),
         "trails_crosses" => of_crossing(interface::crosses(record, &QUESTION)),
-        "trails_run" => of_run(interface::run(record, &CALLS)),
-        "trails_crosses_after" => of_crossing(interface::crosses_after(record, &CALLS, &QUESTION)),
+        "trails_run" => of_run(interface::run(record, &agings())),
+        "trails_crosses_after" => {
+            of_crossing(interface::crosses_after(record, &agings(), &QUESTION))
+        }
         other => panic!("{other} isn't tried here"),
     };
     [answer, lent.numbers()].concat()
@@ -206,23 +238,30 @@ fn exchanged(function: &Function) -> Vec<InC> {
     all
 }
 
-/// The columns of a writer with each two of their lengths exchanged.
-fn other_lengths(columns: &[&str]) -> Vec<String> {
+/// Columns with each two of their lengths exchanged.
+fn other_lengths(columns: &[&str], lengths: &[usize]) -> Vec<String> {
     let mut all = Vec::new();
     for k in 0..columns.len() {
         for j in k + 1..columns.len() {
-            let mut lengths: Vec<usize> = (1..=columns.len()).collect();
+            let mut lengths = lengths.to_vec();
             lengths.swap(k, j);
             let lent = columns.iter().zip(lengths);
             let lent: Vec<String> = lent.map(|(name, many)| format!("{name}, {many}")).collect();
-            all.push(format!("{}, output, {OUTPUT_BYTES}", lent.join(", ")));
+            all.push(lent.join(", "));
         }
     }
     all
 }
 
-/// So that the values are no accident: with any two exchanged, something else comes of the call. Of a writer's columns
-/// the shortest counts, whichever it is, so of their lengths no exchange is seen by calls.
+/// The columns of a writer with each two of their lengths exchanged.
+fn other_lengths_written(columns: &[&str]) -> Vec<String> {
+    let lent = other_lengths(columns, &COUNTS).into_iter();
+    lent.map(|lent| format!("{lent}, output, {OUTPUT_BYTES}"))
+        .collect()
+}
+
+/// So that the values are no accident: with any two exchanged, something else comes of the call. Of a writer's columns,
+/// and of those of a table, the shortest counts, whichever it is, so of their lengths no exchange is seen by calls.
 #[test]
 fn each_exchange_of_two_arguments_would_be_seen() {
     let calls: Vec<InC> = in_header().iter().flat_map(exchanged).collect();
@@ -232,9 +271,10 @@ fn each_exchange_of_two_arguments_would_be_seen() {
         .filter(|(call, numbers)| *numbers == plainly(&call.function.name))
         .map(|(call, _)| call.arguments.join(", "))
         .collect();
-    let three = other_lengths(&["t", "x", "y"]);
-    let four = other_lengths(&["t", "x", "y", "silence"]);
-    assert_eq!(unseen, [three.clone(), three, four].concat());
+    let three = other_lengths_written(&["t", "x", "y"]);
+    let four = other_lengths_written(&["t", "x", "y", "silence"]);
+    let rows = other_lengths(&["days", "tolerances"], &ROW_COUNTS);
+    assert_eq!(unseen, [three.clone(), three, four, rows].concat());
     println!(
         "order: {} exchanges, {} seen",
         calls.len(),

@@ -109,13 +109,11 @@ fn run(arguments: &Arguments) -> Result<Status, Failure> {
     let [name]: &[OsString; 1] = arguments.exactly("one file")?;
     let (area, window) = (arguments.area()?, arguments.window()?);
     let other = arguments.file("--original");
-    if name == "-" && other.is_some_and(|other| other == "-") {
-        return Err(arguments.wrong("only one of the two can be the standard input"));
-    }
     let drawn: Vec<&OsStr> = [Some(name.as_os_str()), other]
         .into_iter()
         .flatten()
         .collect();
+    arguments.can_read(drawn.iter().copied())?;
     let to = output_of(arguments, &drawn)?;
     let trail = Trail::read(name)?;
     let original = other.map(Trail::read).transpose()?;

@@ -5,6 +5,8 @@ use std::fs::OpenOptions;
 use std::os::unix::ffi::OsStrExt;
 use std::process::Command;
 
+use trails_tests::programs::project;
+
 use crate::folder::{fine_h, fine_h_at_105, fine_record, record, silent_h, silent_h_at_12};
 use crate::folder::{silent_record, trail_h, trail_h_at_12};
 use crate::folder::{Folder, AGED_H, AGE_H, PROGRAM};
@@ -186,6 +188,102 @@ fn age_by_days_takes_the_tables_tolerance() {
     folder.run(&["age", "--json", "--days", "7", "h"]).says(
         "{\"file\":\"h\",\"unit\":\"cm\",\"before\":4,\"count\":2,\"mark\":25,\
          \"measured\":2,\"freed\":16}\n",
+    );
+}
+
+// ---- tables
+
+/// Document 01's trail h keeps all its fixes at 6, three of them at 12, and its ends from 20 on.
+const HALL: &str = "0,0\n5,6\n6,12\n40,6000\n41,6001\n";
+
+fn with_hall() -> Folder {
+    let folder = Folder::with_h();
+    folder.put("hall", HALL);
+    folder.put("fine", fine_h());
+    folder
+}
+
+/// What a person sees: for which days each row is, and what trails in each unit get; and nothing before a first row on
+/// day 0.
+#[test]
+fn a_table_is_printed_with_what_it_gives() {
+    let folder = with_hall();
+    folder.run(&["table", "hall"]).says(
+        "0 0         # days 0 to 4: 0 cm, or 0 mm\n\
+         5 6         # day 5: 6 cm, or 60 mm\n\
+         6 12        # days 6 to 39: 12 cm, or 120 mm\n\
+         40 6000     # day 40: 6000 cm, or 60000 mm\n\
+         41 6001     # from day 41: 6001 cm, or 60000 mm\n",
+    );
+    folder
+        .run_with(&["table", "-"], b"65535 32000")
+        .says("# before day 65535: none\n65535 32000 # from day 65535: 32000 cm, or 60000 mm\n");
+    folder.run(&["table", "--json", "hall"]).says(
+        "{\"file\":\"hall\",\"rows\":[[0,0,0],[5,6,60],[6,12,120],[40,6000,60000],[41,6001,60000]]}\n",
+    );
+    folder
+        .run(&["table", "--json"])
+        .says("{\"file\":null,\"rows\":[[2,10,100],[7,25,250],[30,100,1000],[90,400,4000]]}\n");
+}
+
+#[test]
+fn age_by_days_takes_a_halls_own_table() {
+    let folder = with_hall();
+    for (days, answer) in [
+        (
+            "4",
+            "kept 4 of 4 fixes, measured 3, mark 0 cm, freed 0 bytes",
+        ),
+        (
+            "5",
+            "kept 4 of 4 fixes, measured 3, mark 6 cm, freed 0 bytes",
+        ),
+        (
+            "39",
+            "kept 3 of 4 fixes, measured 3, mark 12 cm, freed 8 bytes",
+        ),
+        (
+            "65535",
+            "kept 2 of 4 fixes, measured 2, mark 6001 cm, freed 16 bytes",
+        ),
+    ] {
+        let words = ["age", "--days", days, "--table", "hall", "h", "-o", "new"];
+        folder.run(&words).says(&format!("h: {answer}\n"));
+    }
+    // one table for all files, whatever their units, and from the standard input
+    let both = ["age", "--days=41", "--table", "-", "h", "fine"];
+    let ran = folder.run_with(&both, HALL.as_bytes());
+    let answers = "h: kept 2 of 4 fixes, measured 2, mark 6001 cm, freed 16 bytes\n\
+        fine: kept 2 of 4 fixes, measured 2, mark 60000 mm, freed 24 bytes\n";
+    assert_eq!((ran.status, ran.text()), (Some(0), answers));
+}
+
+#[test]
+fn replay_takes_days_by_a_table() {
+    let folder = with_hall();
+    folder.put("calls", "days 5\ntolerance 9\ndays 6\n");
+    let ran = folder.run(&["replay", "--table", "hall", "h", "calls"]);
+    ran.says(
+        "days 5: kept 4, measured 3\n\
+         tolerance 9: kept 4, measured 3\n\
+         days 6: kept 3, measured 3\n\
+         E 12 cm\ntrail 3 12\nfix 0 0 0\nfix 10 20 0\nfix 30 0 0\nend\n",
+    );
+    assert_eq!(folder.get("h"), trail_h());
+}
+
+/// The table that a person finds among the examples.
+#[test]
+fn the_example_is_a_table() {
+    let folder = Folder::new();
+    let example = project().join("examples/hall.table");
+    let example = example.to_str().expect("a name in UTF-8");
+    folder.run(&["table", example]).says(
+        "# before day 14: none\n\
+         14 5        # days 14 to 29: 5 cm, or 50 mm\n\
+         30 10       # days 30 to 89: 10 cm, or 100 mm\n\
+         90 25       # days 90 to 364: 25 cm, or 250 mm\n\
+         365 100     # from day 365: 100 cm, or 1000 mm\n",
     );
 }
 

@@ -65,8 +65,9 @@ fn a_file_with_several_names_is_told() {
         .says("h: kept 3 of 3 fixes, measured 1, mark 12 cm, freed 0 bytes\n");
 }
 
-/// Outputs that are inputs, or a trail: `"$@"` is the command. `link` and `same` are other names of h.
-const OVER: [&str; 14] = [
+/// Outputs that are inputs, or a trail: `"$@"` is the command. `link` and `same` are other names of h, and `fixes` stands for
+/// every text.
+const OVER: [&str; 16] = [
     "\"$@\" plot h -o h",
     "\"$@\" plot h -o link",
     "\"$@\" plot h -o ./same --force",
@@ -81,6 +82,8 @@ const OVER: [&str; 14] = [
     "\"$@\" age --days 7 h -o - >> h",
     "\"$@\" age --days 7 h -o /dev/stdout >> h",
     "\"$@\" age --days 7 t -o h >> h",
+    "\"$@\" age --days 7 t --table fixes -o fixes",
+    "\"$@\" age --days 7 t --table - -o fixes < fixes",
 ];
 
 #[test]

@@ -177,6 +177,77 @@ fn a_trail_in_millimetres_has_its_own_limits() {
     assert_eq!(aged.status, Some(0), "{}", aged.err);
 }
 
+/// The sentences about a table, by hand.
+const BAD_ROW_COUNT: &str = "The table has no rows, or more than 32.";
+const BAD_ROWS: &str =
+    "The table's days don't rise strictly, its tolerances fall, or one is above 32,000.";
+
+/// A table of so many rows.
+fn rows(many: usize) -> String {
+    (0..many).map(|day| format!("{day} 5\n")).collect()
+}
+
+/// With the line that it is about, or how many rows there are; and then no trail is looked at, not even one that isn't
+/// there.
+#[test]
+fn tables_are_refused() {
+    let folder = Folder::with_h();
+    let counted = |many: usize| format!("hall: refused 22: {BAD_ROW_COUNT} The rows are {many}.");
+    let named = |line: usize| format!("hall, line {line}: refused 23: {BAD_ROWS}");
+    let cases = [
+        (String::new(), counted(0)),
+        ("# none\n".into(), counted(0)),
+        (rows(33), counted(33)),
+        (rows(4_096), counted(4_096)),
+        ("2 10\n\n2 25\n".into(), named(3)),
+        ("2 10\n7 25\n3 400\n".into(), named(3)),
+        ("2 10\n7 9\n30 8\n".into(), named(2)),
+        ("2 32001\n".into(), named(1)),
+        ("2 10\n7 65535\n".into(), named(2)),
+        (rows(32) + "31 5\n", counted(33)),
+        (rows(31) + "30 5\n", named(32)),
+    ];
+    for (text, message) in cases {
+        folder.put("hall", text);
+        for words in [
+            "table hall",
+            "age --days 7 --table hall h missing",
+            "age --days 7 --table hall h -o new",
+            "replay --table hall h missing",
+        ] {
+            folder.run_line(words).fails(1, &message);
+        }
+        assert_eq!(folder.get("h"), trail_h());
+        assert_eq!(folder.names(), ["h", "hall"]);
+    }
+    folder.put("hall", rows(32));
+    assert_eq!(folder.run_line("table hall").status, Some(0));
+}
+
+#[test]
+fn refused_tables_are_told_to_programs() {
+    let folder = Folder::with_h();
+    let refused = |number, sentence| format!("\"refused\":{number},\"sentence\":\"{sentence}\"");
+    for (text, told) in [
+        ("", format!("{},\"rows\":0", refused(22, BAD_ROW_COUNT))),
+        (
+            "2 10\n2 10\n",
+            format!("\"line\":2,{}", refused(23, BAD_ROWS)),
+        ),
+    ] {
+        folder.put("hall", text);
+        for words in ["table --json hall", "age --json --days 7 --table hall h"] {
+            let ran = folder.run_line(words);
+            let line = format!("{{\"file\":\"hall\",{told}}}\n");
+            assert_eq!(
+                (ran.status, ran.text()),
+                (Some(1), line.as_str()),
+                "{words}"
+            );
+        }
+    }
+}
+
 #[test]
 fn moments_outside_the_trail_are_refused() {
     let message = format!("h: {} {SECONDS}", refused(12));

@@ -1,4 +1,4 @@
-//! `write`, and the texts that it and `replay` read.
+//! `write`, and the texts that it, `table` and `replay` read.
 
 use crate::folder::{fine_record, record, silent_h, silent_record, trail_h, Folder};
 
@@ -235,6 +235,63 @@ fn the_longest_list_is_stored() {
         let listing = folder.run(&["list", "t"]);
         let end = "fix 4095 4095 -4095\nend\n";
         assert!(listing.text().ends_with(end), "{words:?}");
+    }
+}
+
+// ---- tables
+
+/// The built-in table as it is printed, which is a table too.
+const BUILT_IN: &str = "# before day 2: none
+2 10        # days 2 to 6: 10 cm, or 100 mm
+7 25        # days 7 to 29: 25 cm, or 250 mm
+30 100      # days 30 to 89: 100 cm, or 1000 mm
+90 400      # from day 90: 400 cm, or 4000 mm
+";
+
+#[test]
+fn tables_are_read_as_lists_of_fixes_are() {
+    let folder = Folder::new();
+    let plain = "2 10\n7 25\n30 100\n90 400\n";
+    let dressed = "\u{feff}# hall\r\n 2,10\r\n\n+7,\t25 \n30   100 # fine\n#\n90 +400";
+    folder.run(&["table"]).says(BUILT_IN);
+    for text in [plain, dressed, BUILT_IN] {
+        folder.put("hall", text);
+        folder.run(&["table", "hall"]).says(BUILT_IN);
+        folder
+            .run_with(&["table", "-"], text.as_bytes())
+            .says(BUILT_IN);
+    }
+}
+
+#[test]
+fn a_bad_row_is_named_with_its_number() {
+    let folder = Folder::new();
+    folder.put("t", trail_h());
+    let fields = |n| format!("a row is 'day tolerance', and here stand {n} fields");
+    let number =
+        |field, word, range| format!("{field}: '{word}' isn't a whole number from {range}");
+    let (days, tolerances) = ("0 to 65,535", "0 to 32,000");
+    let cases: [(&[u8], usize, String); 8] = [
+        (b"2", 1, fields(1)),
+        (b"# rows\n\n2 10 7 25\n", 3, fields(4)),
+        (b"2,10\n7,25,", 2, fields(3)),
+        (b"day,tolerance\n2,10\n", 1, number("day", "day", days)),
+        (b"2 10\n65536 25\n", 2, number("day", "65536", days)),
+        (b"2 -1\n", 1, number("tolerance", "-1", tolerances)),
+        (b"2 65536\n", 1, number("tolerance", "65536", tolerances)),
+        (b"2 10\n\xff\xfe\n", 2, "it isn't text in UTF-8".into()),
+    ];
+    for (text, line, what) in cases {
+        folder.put("hall", text);
+        for words in [
+            &["table", "hall"][..],
+            &["age", "--days", "7", "--table", "hall", "t"],
+            &["replay", "--table", "hall", "t", "-"],
+        ] {
+            let ran = folder.run(words);
+            ran.fails(2, &format!("hall, line {line}: {what}"));
+        }
+        assert_eq!(folder.get("t"), trail_h());
     }
 }
 

@@ -8,8 +8,8 @@ use trails_tests::cases::Random;
 
 use crate::folder::{trail_h, trail_h_at_12, Folder, Ran, AGED_H, AGE_H, PROGRAM};
 
-const NAMES: [&str; 8] = [
-    "list", "check", "write", "age", "place", "cross", "replay", "plot",
+const NAMES: [&str; 9] = [
+    "list", "check", "write", "age", "table", "place", "cross", "replay", "plot",
 ];
 
 #[test]
@@ -31,7 +31,7 @@ fn help_is_printed_for_the_command_and_each_of_its_commands() {
 }
 
 /// Words that no command takes. There is a trail `h`.
-const WRONG: [&str; 47] = [
+const WRONG: [&str; 56] = [
     "",
     "lists h",
     "list",
@@ -62,6 +62,15 @@ const WRONG: [&str; 47] = [
     "age --days 5 -",
     "age --days 5 h -",
     "age --days 5 --json h -o -",
+    "age --table missing h",
+    "age --table missing --tolerance 5 h",
+    "age --days 5 --table",
+    "age --days 5 --table missing -",
+    "age --days 5 --table - - -o t",
+    "table missing missing",
+    "table --days 5 missing",
+    "replay --table - h -",
+    "replay --table - - missing",
     "place h",
     "place h -1",
     "place h 4294967296",
@@ -108,6 +117,9 @@ fn files_that_cannot_be_read_are_named() {
             &["place", name, "5"],
             &["age", "--days", "7", name],
             &["age", "--days", "7", name, "-o", "new"],
+            &["age", "--days", "7", "--table", name, "t"],
+            &["replay", "--table", name, "t", "t"],
+            &["table", name],
             &["write", name, "-o", "new"],
         ] {
             let ran = folder.run(words);
@@ -132,13 +144,14 @@ fn texts_above_8_mib_are_turned_away() {
 }
 
 /// Commands that print an answer, on `h`. The last one changes it.
-const ANSWERS: [&str; 8] = [
+const ANSWERS: [&str; 9] = [
     "list h",
     "check h h",
     "place h 5 --json",
     "place h 31 --json",
     "age --tolerance 12 h -o -",
     "plot h -o -",
+    "table",
     "--help",
     "age --tolerance 12 h",
 ];
@@ -185,7 +198,7 @@ fn a_reader_that_hangs_up_is_told() {
 }
 
 /// Wrong words, and what the message has before it names the help.
-const WRONG_VALUES: [(&str, &str); 19] = [
+const WRONG_VALUES: [(&str, &str); 22] = [
     (
         "cross h --window 0 1 --box 0 1 0",
         "--box takes X0 X1 Y0 Y1, and Y1 is missing",
@@ -239,6 +252,12 @@ const WRONG_VALUES: [(&str, &str); 19] = [
         "--silence-after, SECONDS: '1.5' isn't a whole number from 0 to 4,294,967,295",
     ),
     ("age --days 7 h -o", "-o takes OUT"),
+    ("age --days 7 h --table", "--table takes FILE"),
+    ("age --tolerance 7 --table t h", "--table goes with --days"),
+    (
+        "table h h",
+        "it takes one table, or none for the built-in one",
+    ),
     ("plot h", "-o OUT is missing"),
     ("list h --json=1", "--json takes no value"),
     (
@@ -292,7 +311,7 @@ fn words_that_are_not_utf8_are_no_crash() {
 }
 
 /// Words that may follow each other in any way.
-const WORDS: [&str; 29] = [
+const WORDS: [&str; 31] = [
     "--json",
     "--force",
     "--millimetres",
@@ -304,6 +323,8 @@ const WORDS: [&str; 29] = [
     "--box",
     "--window",
     "--original",
+    "--table",
+    "--table=-",
     "-o",
     "-",
     "--",

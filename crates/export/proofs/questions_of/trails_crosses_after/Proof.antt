@@ -26,13 +26,13 @@ same-length c = search needs
 
 returns : tie.Need-returns
 returns c =
-    let a = c .before .before .before .before .before .before .before .before .before .args in
+    let a = c .before .before .before .before .before .before .before .before .before .before .args in
     let w = c .before .before .before .before .before .window .ensures in
     let e = c .before .before .before .before .edges .ensures
     ∙ same-box (toZ-ofZ {w = w32} {z = a .left} (search needs)) (toZ-ofZ {w = w32} {z = a .right} (search needs)) (toZ-ofZ {w = w32} {z = a .bottom} (search needs)) (toZ-ofZ {w = w32} {z = a .top} (search needs)) in
     let done = c .before .before .before .crosses-after .ensures in
     let b = now (a .b) in
-    let calls = calls-of (now (a .calls)) in (
+    let calls = calls-of (now (a .tables)) (now (a .calls)) in (
       c .crossing-of .ensures ∙ ap crossing-numbers (done .0 ∙ same-asked (after-answer b calls) (w .0) (w .1) e),
       done .1 ∙ same-asked (left-after b calls) (w .0) (w .1) e,
       done .2,

@@ -1,6 +1,4 @@
 use mathlib.Core.Path.{sym, _∙_, ap}
-use mathlib.Core.List.{List}
-use Prim.Native.Nat.{ℕ}
 use denote.Ref.{now}
 use borrow.Author.Needs.{needs}
 use Rattle.format.specs.Laws.RoundTrip.{AreBytes, are-bytes}
@@ -29,27 +27,27 @@ call-each-requires c κs = search needs
 
 cross-asked-requires : tie.Need-cross-asked-requires
 cross-asked-requires c κs =
-    let s = c .before .before .before .before .before .before .before .before .before .before .before in
-    not-refused-after _ _ (boxOf (s .args .e)) (now (s .args .b)) _ (calls-of (now (s .args .calls))) (all-bytes (c .before .before .before .before .before .before .before .before .before .before)) (sym (c .before .before .before .before .before .before .before .cross-says .ensures) ∙ ap refused (c .before .before .before .before .before .enum-told .given .1)) (c .before .before .before .call-each .ensures .1)
+    let s = c .before .before .before .before .before .before .before .before .before .before .before .before in
+    not-refused-after _ _ (boxOf (s .args .e)) (now (s .args .b)) _ (calls-of (now (s .args .tables)) (now (s .args .calls))) (all-bytes (c .before .before .before .before .before .before .before .before .before .before .before)) (sym (c .before .before .before .before .before .before .before .cross-says .ensures) ∙ ap refused (c .before .before .before .before .before .enum-told .given .1)) (c .before .before .before .call-each .ensures .1)
 
 same-length : tie.Need-same-length
 same-length c = search needs
 
 returns : tie.Need-returns
 returns c =
-    let s = c .before .before .before .before .before .before .before in
-    let said = refused-after _ _ (boxOf (s .args .e)) (now (s .args .b)) (calls-of (now (s .args .calls))) _ (sym (c .before .before .before .cross-says .ensures) ∙ ap refused (c .before .v .given .1)) in
-    (said .0, said .1, λ a m. claim (now (s .args .b)) (calls-of (now (s .args .calls))) (all-bytes (c .before .before .before .before .before .before)) a m)
+    let s = c .before .before .before .before .before .before .before .before in
+    let said = refused-after _ _ (boxOf (s .args .e)) (now (s .args .b)) (calls-of (now (s .args .tables)) (now (s .args .calls))) _ (sym (c .before .before .before .cross-says .ensures) ∙ ap refused (c .before .v .given .1)) in
+    (said .0, said .1, λ a m. claim (now (s .args .b)) (calls-of (now (s .args .tables)) (now (s .args .calls))) (all-bytes (c .before .before .before .before .before .before .before)) a m)
 
 same-length-2 : tie.Need-same-length-2
 same-length-2 c = search needs
 
 returns-2 : tie.Need-returns-2
 returns-2 c =
-    let s = c .before .before .before .before .before .before .before .before .before .before .before .before in
-    let bytes = all-bytes (c .before .before .before .before .before .before .before .before .before .before .before) in
-    let said = made-after _ _ (boxOf (s .args .e)) (now (s .args .b)) _ (calls-of (now (s .args .calls))) _ bytes (sym (c .before .before .before .before .before .before .before .before .cross-says .ensures) ∙ ap refused (c .before .before .before .before .before .before .enum-told .given .1)) (c .before .before .before .before .call-each .ensures .1) (c .cross-asked .ensures) in
-    (said .0, said .1, λ a m. claim (now (s .args .b)) (calls-of (now (s .args .calls))) bytes a m)
+    let s = c .before .before .before .before .before .before .before .before .before .before .before .before .before in
+    let bytes = all-bytes (c .before .before .before .before .before .before .before .before .before .before .before .before) in
+    let said = made-after _ _ (boxOf (s .args .e)) (now (s .args .b)) _ (calls-of (now (s .args .tables)) (now (s .args .calls))) _ bytes (sym (c .before .before .before .before .before .before .before .before .cross-says .ensures) ∙ ap refused (c .before .before .before .before .before .before .enum-told .given .1)) (c .before .before .before .before .call-each .ensures .1) (c .cross-asked .ensures) in
+    (said .0, said .1, λ a m. claim (now (s .args .b)) (calls-of (now (s .args .tables)) (now (s .args .calls))) bytes a m)
 
 pub crosses-after-spec : {M : Type 1} → statement M
 crosses-after-spec =
