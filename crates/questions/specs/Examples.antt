@@ -10,7 +10,7 @@ use Rattle.distance.specs.Distance.{deviation, allowance}
 use Rattle.distance.specs.Box.{Box, box-with}
 use Rattle.distance.specs.Tenfold.{tenfold-box}
 use Rattle.distance.specs.Clock.{moved}
-use Rattle.distance.specs.Laws.All.{All, all-always}
+use Rattle.distance.specs.Laws.All.{All, all-none, all-more, all-always}
 use Rattle.format.specs.Bytes.{number-at, bytes-of, signed, unsigned}
 use Rattle.format.specs.Format.{kind-of, never, mark-field, fix-from, fix-at, each, fix-to, fix-bytes, all-bytes, header-bytes, record-bytes}
 use Rattle.record.specs.Checks.{IsAccepted, sentence, first, some-bad-row, some-outside, some-other-silence, some-early-after, some-early, of-ends}
@@ -21,7 +21,8 @@ use Rattle.aging.specs.Examples.{straight, parted-trail, parted-aged, low-rows}
 use Rattle.aging.specs.Aging.{Call, by-tolerance, by-days, new-mark, thinned-record}
 use Rattle.aging.specs.Tenfold.{at-ten-times, by-same-days, both-too-high}
 use Rattle.table.specs.Table.{last-row, built-in}
-use Rattle.table.specs.Examples.{built-in-numbers, own-numbers}
+use Rattle.table.specs.Answers.{tableOf}
+use Rattle.table.specs.Examples.{built-in-numbers, own-numbers, full, full-held}
 use Rattle.legs.specs.declared.Fraction.{Fraction}
 use Rattle.crossing.specs.Crossing.{first-crossing, first-from, cross-answer}
 use Rattle.legs.specs.Legs.{leg-first, leg-times, axis-times, first-of, later-of, earlier-of}
@@ -32,6 +33,7 @@ use Rattle.questions.specs.Agings.{run, after-answer, call-of, calls-of}
 use Rattle.questions.specs.Claim.{Claim}
 use Rattle.questions.specs.Tenfold.{TenfoldCalls, no-calls, and-then, all-answered, TenfoldClaim}
 use Rattle.questions.specs.Laws.Moved.{after-answer-moved}
+use Rattle.questions.specs.Laws.Calls.{tolerance-16, days-16, Lent, numbers-of}
 use Rattle.questions.specs.Laws.Claim.{claim}
 use Rattle.questions.specs.Laws.Tenfold.{made-tenfold}
 use Rattle.distance.specs.Fix.{last-of}
@@ -169,6 +171,13 @@ examples = refl
 pub numbered-calls-computed : calls-of (built-in-numbers ++ own-numbers) (25 ∷ 65543 ∷ 131079 ∷ 196615 ∷ []) ≡ by-tolerance 25 ∷ by-days 7 built-in ∷ by-days 7 (row 7 12 ∷ []) ∷ by-days 7 [] ∷ []
 unfolding calls-of call-of each
 numbered-calls-computed = refl
+
+-- and numbers of calls: an aging at the highest tolerance of 16 bits, which is turned away, and two by a table with a row and by one whose count says 40
+pub calls-have-numbers : Lent [] (by-tolerance 65535 ∷ by-days 7 (tableOf (full 1)) ∷ by-days 65535 (tableOf (full 40)) ∷ [])
+calls-have-numbers =
+    numbers-of
+    (all-more (tolerance-16 {e = 65535} (omega arith))
+    (all-more (days-16 {d = 7} (omega arith) (full 1) (full-held 1 (omega arith))) (all-more (days-16 {d = 65535} (omega arith) (full 40) (full-held 40 (omega arith))) all-none))) (omega arith)
 
 -- ---- the crossing on it: the original reaches x = 20, what is left at 25 does not
 abbrev pub shelf : Box

@@ -3,12 +3,17 @@
 use mathlib.Core.Path.{_≡_, refl}
 use mathlib.Core.List.{List, [], _∷_, _++_}
 use mathlib.Core.Option.{some, none}
-use Prim.Native.Nat.{ℕ}
+use Prim.Native.Nat.{ℕ, zero, suc, _<_}
+use native.Mathlib.Omega.{arith}
+use lib.ListN.{replicate}
 use Rattle.distance.specs.Examples.{Computes}
+use Rattle.distance.specs.Laws.All.{All, all-none, all-more}
 use Rattle.format.specs.Format.{each}
 use Rattle.record.specs.Checks.{first, sentence, some-bad-row, load-refusal}
 use Rattle.record.specs.Examples.{row}
 use Rattle.table.specs.Answers.{tableOf}
+use Rattle.table.specs.Laws.Lent.{Held}
+use Rattle.table.specs.declared.Table.{Table}
 use Rattle.table.specs.declared.Row.{Row as RowStruct}
 use Rattle.table.specs.Table.{column-rows, table-at, last-row, days-give, built-in}
 
@@ -34,6 +39,17 @@ struct-row d e = record { day = record { 0 = d }; tolerance = record { 0 = e } }
 pub struct-computed : tableOf (record { count = 2; rows = struct-row 2 10 ∷ struct-row 7 25 ∷ struct-row 9 99 ∷ [] }) ≡ row 2 10 ∷ row 7 25 ∷ []
 unfolding each
 struct-computed = refl
+
+-- .. and one with all its room, which the struct can hold whatever its count says: no hypothesis of `has-numbers` is empty
+abbrev pub full : (count : ℕ) → Table
+full count = record { count = count; rows = replicate 32 (struct-row 7 12) }
+
+pub full-held : (count : ℕ) → count < 65536 → Held (full count)
+full-held count h = record { room = refl; count-16 = h; rows-16 = go 32 }
+  where
+    go : (n : ℕ) → All (λ (r : RowStruct). (r .day .0 < 65536) × (r .tolerance .0 < 65536)) (replicate n (struct-row 7 12))
+    go zero = all-none
+    go (suc n) = all-more {m = struct-row 7 12} (omega arith, omega arith) (go n)
 
 -- ---- tables as numbers, 65 each: the built-in one, one of a single row, and one whose count says 40, of which only 32 can stand there
 abbrev pub zeros : (n : ℕ) → List ℕ

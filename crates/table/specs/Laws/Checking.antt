@@ -1,5 +1,6 @@
 -- The checks of a table, as the code makes them: 22, and then 23 row by row.
 use mathlib.Core.Path.{_≡_, refl, sym, _∙_}
+use mathlib.Core.Logic.{_⊎_, inl, inr}
 use mathlib.Core.Bool.{Bool, true, false, _||_}
 use mathlib.Core.List.{List, [], _∷_}
 use mathlib.Core.Option.{some, none}
@@ -10,9 +11,9 @@ use borrow.Author.Tests.{eq-eqb, ne-eqb, lt-ltb, le-ltb}
 use Rattle.distance.specs.Integers.Tests.{Test, holds, fails, test}
 use Rattle.format.specs.Format.{each}
 use Rattle.format.specs.Laws.Each.{length-each, each-first}
-use Rattle.record.specs.Checks.{Row, Check, bad-row-count, bad-rows, bad-row, some-bad-row, sentence, first, with-table, load-refusal}
+use Rattle.record.specs.Checks.{Row, Check, bad-row-count, bad-rows, bad-row, some-bad-row, sentence, first, FirstHolds, this, not-before, with-table, load-refusal}
 use Rattle.record.specs.Laws.Head.{asks}
-use Rattle.record.specs.Laws.First.{stops, passes, first-none, some-none}
+use Rattle.record.specs.Laws.First.{stops, passes, first-none, first-exactly, some-none}
 use Rattle.table.specs.Answers.{row-at, row-before, tableOf}
 use Rattle.table.specs.declared.Table.{Table}
 
@@ -41,6 +42,14 @@ module _ (rows : List Row) where
   pub all-accepted : 1 ≤ length rows → length rows ≤ 32 → some-bad-row none rows ≡ false → load-refusal rows ≡ none
   unfolding sentence
   all-accepted h k e = passed-count h k ∙ passes says bad-rows [] e ∙ first-none says
+
+-- no table is turned away by another number
+pub only-22-or-23 : (rows : List Row) (k : ℕ) → load-refusal rows ≡ some k → (k ≡ 22) ⊎ (k ≡ 23)
+only-22-or-23 rows k h = go (first-exactly (says rows) k (bad-row-count ∷ bad-rows ∷ []) .0 h)
+  where
+    go : FirstHolds (says rows) k (bad-row-count ∷ bad-rows ∷ []) → (k ≡ 22) ⊎ (k ≡ 23)
+    go (this s e) = inl (sym e)
+    go (not-before n (this s e)) = inr (sym e)
 
 -- what is accepted passes both
 pub accepted-few : (rows : List Row) → load-refusal rows ≡ none → length rows ≤ 32
