@@ -9,7 +9,7 @@ use Rattle.distance.specs.Fix.{Fix}
 use Rattle.format.specs.Format.{kind-field, count-field, mark-field}
 use Rattle.record.specs.Checks.{Row, read-refusal, load-refusal}
 use Rattle.record.specs.Answers.{Answer, gives, turns-away, answer, unless}
-use Rattle.record.specs.Reading.{yields}
+use Rattle.reading.specs.Reading.{yields}
 use Rattle.table.specs.Answers.{tableOf, ClearedAfter}
 use Rattle.moment.specs.Moment.{Standing}
 use Rattle.legs.specs.declared.Fraction.{Fraction}

@@ -20,7 +20,7 @@ use Rattle.record.specs.Laws.First.{first-exactly}
 use Rattle.record.specs.Laws.Head.{accepted-head}
 use Rattle.format.specs.Laws.Layout.{of-head-field}
 use Rattle.distance.specs.Box.{Box, box-with}
-use Rattle.record.specs.Reading.{yields, read-answer}
+use Rattle.reading.specs.Reading.{yields, read-answer}
 use Rattle.aging.specs.Aging.{Call, age-refusal, age-answer, days-refusal, apply-answer, days-answer}
 use Rattle.questions.specs.Agings.{run-answer, after-answer}
 use Rattle.moment.specs.Moment.{asked-moment, place-answer}

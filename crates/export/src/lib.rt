@@ -17,8 +17,9 @@ ghost use lib.ListN.{length, drop};
 ghost use Rattle.format.specs.Kinds.{trail, millimetre-trail, silence-trail};
 ghost use Rattle.format.specs.Format.{kind-field};
 ghost use Rattle.text.specs.Text.{text};
-ghost use Rattle.record.specs.Reading.{read-answer, times-read, xs-read, ys-read, silences-read};
-ghost use Rattle.record.specs.Answers.{gives, found};
+ghost use Rattle.reading.specs.Reading.{read-answer, times-read, xs-read, ys-read, silences-read};
+ghost use Rattle.record.specs.Answers.{gives};
+ghost use Rattle.reading.specs.Answers.{found};
 ghost use Rattle.writing.specs.Answers.{wrote};
 ghost use Rattle.writing.specs.Writing.{columns, write-answer, written};
 ghost use Rattle.table.specs.Answers.{tableOf};
@@ -135,11 +136,11 @@ pub extern "C" fn trails_check(b: &[u8]) -> Head
 }
 
 // What a reader yielded of a record of this kind, as numbers.
-fn step_of(s: record::Step, kind: u32) -> Step
+fn step_of(s: reading::Step, kind: u32) -> Step
     ensures { λ r. ⌜ r ≡ step-numbers kind (gives (found s)) ⌝ }
 {
     match s {
-        record::Step::Found(f) => {
+        reading::Step::Found(f) => {
             let t = f.t;
             let s = f.silence;
             Step {
@@ -152,7 +153,7 @@ fn step_of(s: record::Step, kind: u32) -> Step
                 silence: wide(s.0),
             }
         },
-        record::Step::NoneLeft => Step {
+        reading::Step::NoneLeft => Step {
             refusal: 0,
             found: 0,
             kind: 0,
@@ -182,7 +183,7 @@ pub extern "C" fn trails_read(b: &[u8], position: usize) -> Step
         },
         record::Checked::Accepted => {
             let h = format::head_of(b);
-            step_of(record::read_at(b, position), h.kind)
+            step_of(reading::read_at(b, position), h.kind)
         },
     }
 }
@@ -198,13 +199,13 @@ pub extern "C" fn trails_read_all(
 ) -> Answer
     ensures { λ r. ⌜ (r ≡ value-numbers (read-answer (now (b .entry)))) × (now (t .exit) ≡ times-read (now (b .entry)) (now (t .entry))) × (now (x .exit) ≡ xs-read (now (b .entry)) (now (x .entry))) × (now (y .exit) ≡ ys-read (now (b .entry)) (now (y .entry))) × (now (silence .exit) ≡ silences-read (now (b .entry)) (now (silence .entry))) ⌝ }
 {
-    let a = record::read_all(b, t, x, y, silence);
+    let a = reading::read_all(b, t, x, y, silence);
     match a {
-        record::AllRead::Count(fixes) => Answer {
+        reading::AllRead::Count(fixes) => Answer {
             refusal: 0,
             value: fixes,
         },
-        record::AllRead::Refused(k) => Answer {
+        reading::AllRead::Refused(k) => Answer {
             refusal: wide(k),
             value: 0,
         },

@@ -46,7 +46,7 @@ coded [] c = false
 coded (K ∷ l) c = eqb c (K .code) || coded l c
 
 -- .. and the one that has it. Of a number that none has, kind 1, which is seen nowhere: every operation over lent bytes answers 1 or 2, and the reader yields
--- nothing (`unknown-kind` and `unknown-yields-none` of the record's Laws/Kinds.antt).
+-- nothing (`unknown-kind` of the record's Laws/Kinds.antt, and `unknown-yields-none` of the reading's Laws/Reading.antt).
 abbrev pub with-code : List Kind → ℕ → Kind
 with-code [] c = trail
 with-code (K ∷ l) c = cond (eqb c (K .code)) K (with-code l c)

@@ -6,8 +6,8 @@ use distance::Coordinate;
 use distance::Fix;
 use moment::Placed;
 use moment::Spot;
+use reading::Step;
 use record::Checked;
-use record::Step;
 use writing::Written;
 ghost use Rattle.printing.specs.Fractions.{Greatest};
 
@@ -69,7 +69,7 @@ fn fix_at(b: &[u8], k: usize) {
     if 0 < k {
         word(b" ");
     }
-    let s = record::read_at(b, k);
+    let s = reading::read_at(b, k);
     if let Step::Found(f) = s {
         fix(f);
     }
@@ -165,7 +165,7 @@ fn positions(original: &[u8], left: &[u8], n: usize) -> usize {
     let mut k = 0;
     let mut found = 0;
     while k < n {
-        if same_step(record::read_at(original, k), record::read_at(left, found)) {
+        if same_step(reading::read_at(original, k), reading::read_at(left, found)) {
             position(k, found);
             found += 1;
         }

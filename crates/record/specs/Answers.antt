@@ -2,15 +2,7 @@
 use mathlib.Core.Path.{_≡_}
 use mathlib.Core.Option.{Option, some, none}
 use Prim.Native.Nat.{ℕ}
-use Rattle.distance.specs.Fix.{Fix, fixOf}
 use Rattle.record.specs.declared.Checked.{Checked}
-use Rattle.record.specs.declared.AllRead.{AllRead}
-use Rattle.record.specs.declared.AllRead.the-variants as All
-use Rattle.record.specs.declared.InUnit.{InUnit}
-use Rattle.record.specs.declared.InUnit.the-variants as Units
-use Rattle.format.specs.Kinds.{units}
-use Rattle.record.specs.declared.Step.{Step}
-use Rattle.record.specs.declared.Step.the-variants.{Found, NoneLeft}
 use Rattle.record.specs.declared.Checked.the-variants.{Accepted, Refused}
 
 -- An operation's answer: what it gives, or the number of its refusal, "and nothing more".
@@ -38,18 +30,3 @@ unless (some k) before afterwards = before
 abbrev pub refused : Checked → Option ℕ
 refused Accepted = none
 refused (Refused k) = some k
-
--- The fix that a reader yielded, or none.
-abbrev pub found : Step → Option Fix
-found (Found f) = some (fixOf f)
-found NoneLeft = none
-
--- What the reader of all fixes answered: the record's count, or the refusal.
-abbrev pub read-count : AllRead → Answer ℕ
-read-count (All.Count n) = gives n
-read-count (All.Refused k) = turns-away k
-
--- The unit of the fixes that a reader yields, or the refusal.
-abbrev pub unit-said : InUnit → Answer ℕ
-unit-said (Units.In u) = gives (units u)
-unit-said (Units.Refused k) = turns-away k

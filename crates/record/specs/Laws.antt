@@ -3,8 +3,6 @@ pub mod First
 pub mod Kinds
 pub mod Scan
 pub mod Head
-pub mod Reading
-pub mod Columns
 pub mod Accepted
 pub mod Rest
 pub mod Changed

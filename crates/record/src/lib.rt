@@ -1,24 +1,12 @@
-// The record layer: the checks that every call makes of a record, and its readers.
-mod all;
+// The checks that every call makes of a record.
 mod checking;
-mod reading;
 
-pub use all::read_all;
 pub use checking::check;
 pub use checking::outside;
 pub use checking::scan_first;
 pub use checking::scan_next;
 pub use checking::scan_says;
-use distance::Fix;
 use distance::Seconds;
-use format::Unit;
-pub use reading::Reader;
-pub use reading::next;
-pub use reading::read;
-pub use reading::read_at;
-pub use reading::read_on;
-pub use reading::said;
-pub use reading::unit_at;
 
 // Whether lent bytes begin with a record: accepted, or the number of the first check that turns them away.
 pub enum Checked {
@@ -35,22 +23,4 @@ pub struct Scan {
     pub first: Seconds,
     pub last: Seconds,
     pub silent: bool,
-}
-
-// What a reader yields.
-pub enum Step {
-    Found(Fix),
-    NoneLeft,
-}
-
-// What the reader of all fixes answers: how many the record has, or the number of the first check that turns it away.
-pub enum AllRead {
-    Count(u32),
-    Refused(u8),
-}
-
-// In which unit a record's fixes are yielded, or the number of the first check that turns it away.
-pub enum InUnit {
-    In(Unit),
-    Refused(u8),
 }

@@ -6,18 +6,19 @@ ghost use lib.ListN.{length, drop};
 ghost use Rattle.distance.specs.Fix.{fixOf, Bounded, widest};
 ghost use Rattle.text.specs.Text.{decimal, integer, silence-text, fix-line, mark-text, first-line, refusal-line, text};
 ghost use Rattle.text.specs.Laws.Text.{Stored, step-text, step-bounded, opening-text, lines-in, closing-text};
-ghost use Rattle.record.specs.Answers.{found, refused};
+ghost use Rattle.record.specs.Answers.{refused};
+ghost use Rattle.reading.specs.Answers.{found};
 ghost use Rattle.record.specs.Checks.{read-refusal};
 use distance::Coordinate;
 use distance::Fix;
 use distance::silent;
 use format::count_at;
 use format::mark_at;
+use reading::Step;
+use reading::next;
+use reading::read;
+use reading::said;
 use record::Checked;
-use record::Step;
-use record::next;
-use record::read;
-use record::said;
 
 // A number in decimal: the digits before the last, by itself, and then the last.
 fn put_decimal(out: &mut [u8], at: usize, n: u32) -> usize

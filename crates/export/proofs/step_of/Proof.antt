@@ -3,8 +3,9 @@ use mir.Facts.{toZ-ofZ}
 use Rattle.distance.specs.Fix.{fixOf}
 use Rattle.export.specs.Laws.{step-found}
 use mathlib.Core.Path.{sym, _∙_, ap}
-use Rattle.record.specs.Answers.{gives, found}
-use Rattle.record.specs.declared.Step.{Step as Yielded}
+use Rattle.record.specs.Answers.{gives}
+use Rattle.reading.specs.Answers.{found}
+use Rattle.reading.specs.declared.Step.{Step as Yielded}
 use Rattle.export.specs.Interface.{step-numbers}
 use borrow.Author.Needs.{needs}
 use Rattle.export.proofs.step_of.Statement.{statement}

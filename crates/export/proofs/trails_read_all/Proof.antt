@@ -1,5 +1,5 @@
 use mathlib.Core.Path.{sym, _∙_, ap}
-use Rattle.record.specs.Answers.{read-count}
+use Rattle.reading.specs.Answers.{read-count}
 use Rattle.export.specs.Interface.{value-numbers}
 use borrow.Author.Needs.{needs}
 use Rattle.export.proofs.trails_read_all.Statement.{statement}

@@ -60,33 +60,34 @@ use denote.Exit.{yes}
 use borrow.Author.Tests.{ltb-true, ltb-false}
 use borrow.Within.Token.{Rest, within-token, within-end}
 use Rattle.record.specs.Checks.{read-refusal}
-use Rattle.record.specs.Reading.{yields, moves, begins, told-refusal}
-use Rattle.record.specs.Answers.{found, refused}
+use Rattle.reading.specs.Reading.{yields, moves, begins, told-refusal}
+use Rattle.record.specs.Answers.{refused}
+use Rattle.reading.specs.Answers.{found}
 use Rattle.text.specs.Text.{text}
-use Rattle.record.specs.Laws.Reading.{begins-tells}
+use Rattle.reading.specs.Laws.Reading.{begins-tells}
 use Rattle.text.specs.Laws.Text.{Stored, step-text, LinesPut, step-bounded, lines-begin, lines-onward, opening-text, lines-in, closing-text, few-lines, line-bounded, line-yields, line-moves, text-put}
-use Rattle.record.specs.declared.reading.Reader.{Reader}
-use Rattle.record.specs.declared.Step.{Step}
+use Rattle.reading.specs.declared.reading.Reader.{Reader}
+use Rattle.reading.specs.declared.Step.{Step}
 use Rattle.record.specs.declared.Checked.{Checked}
 use Rattle.record.proofs.Lending.{word, lentRef, lentT, which, bytes-at, HeldBytes, WhileLent, lend-bytes, bytes-back}
-use Rattle.record.proofs.reading.Reader as T
-use Rattle.record.proofs.reading.Reader.Laws as T′
-use Rattle.record.proofs.Step as S
-use Rattle.record.proofs.Step.Laws as S′
+use Rattle.reading.proofs.reading.Reader as T
+use Rattle.reading.proofs.reading.Reader.Laws as T′
+use Rattle.reading.proofs.Step as S
+use Rattle.reading.proofs.Step.Laws as S′
 use Rattle.record.proofs.Checked as Verdict
 use Rattle.record.proofs.Checked.Laws as Verdict′
-use Rattle.record.proofs.read as read
-use Rattle.record.proofs.read.Symbol as read-def
-use Rattle.record.proofs.read.Symbol.{name as #record·read}
-use Rattle.record.proofs.read.Met as read-thm
-use Rattle.record.proofs.said as said
-use Rattle.record.proofs.said.Symbol as said-def
-use Rattle.record.proofs.said.Symbol.{name as #record·said}
-use Rattle.record.proofs.said.Met as said-thm
-use Rattle.record.proofs.next as next
-use Rattle.record.proofs.next.Symbol as next-def
-use Rattle.record.proofs.next.Symbol.{name as #record·next}
-use Rattle.record.proofs.next.Met as next-thm
+use Rattle.reading.proofs.read as read
+use Rattle.reading.proofs.read.Symbol as read-def
+use Rattle.reading.proofs.read.Symbol.{name as #reading·read}
+use Rattle.reading.proofs.read.Met as read-thm
+use Rattle.reading.proofs.said as said
+use Rattle.reading.proofs.said.Symbol as said-def
+use Rattle.reading.proofs.said.Symbol.{name as #reading·said}
+use Rattle.reading.proofs.said.Met as said-thm
+use Rattle.reading.proofs.next as next
+use Rattle.reading.proofs.next.Symbol as next-def
+use Rattle.reading.proofs.next.Symbol.{name as #reading·next}
+use Rattle.reading.proofs.next.Met as next-thm
 use Rattle.text.proofs.lines_in as lines-in-fn
 use Rattle.text.proofs.lines_in.Symbol as lines-in-fn-def
 use Rattle.text.proofs.lines_in.Symbol.{name as #text·lines-in}
@@ -412,7 +413,7 @@ module _ {M : Type 1} (𝓤 : URA M) (H : Heap 𝓤) (A : Atoms 𝓤) (W : Given
     ended : (z : Z) → z .k ≡ n → (e′ : ℕ) (l : List ℕ) → Closed (z .zs) (z .end) t e′ l → Stored ys 0 l e′ (text (now s)) × (e′ ≤ 159765)
     ended z at-end e′ l c = (text-put (now s) (refused t) told (opened .0) (subst (λ (j : ℕ). LinesPut (now s) ys₁ p j (z .end) (z .zs)) at-end (z .put)) (c .0), omega (arith, c .1, end-within z))
 
-    module _ (𝓣 : Tables 𝓤 H) (known-next : Triple 𝓤 (𝓣 .C #record·next) (Next 𝓤 H A at-mem run)) (known-put : Triple 𝓤 (𝓣 .C #text·put-step) (PutStep 𝓤 H A at-mem run)) (known-closing : Triple 𝓤 (𝓣 .C #text·put-closing) (PutClosing 𝓤 H A at-mem run)) (l₀ l₁ l₂ l₃ l₄ l₅ l₆ l₇ l₈ l₉ l₁₀ l₁₁ l₁₂ l₁₃ l₁₄ l₁₅ l₁₆ l₁₇ : ℕ) where
+    module _ (𝓣 : Tables 𝓤 H) (known-next : Triple 𝓤 (𝓣 .C #reading·next) (Next 𝓤 H A at-mem run)) (known-put : Triple 𝓤 (𝓣 .C #text·put-step) (PutStep 𝓤 H A at-mem run)) (known-closing : Triple 𝓤 (𝓣 .C #text·put-closing) (PutClosing 𝓤 H A at-mem run)) (l₀ l₁ l₂ l₃ l₄ l₅ l₆ l₇ l₈ l₉ l₁₀ l₁₁ l₁₂ l₁₃ l₁₄ l₁₅ l₁₆ l₁₇ : ℕ) where
       abbrev C : Calls 𝓤 H
       C = 𝓣 .C
 
@@ -513,7 +514,7 @@ module _ {M : Type 1} (𝓤 : URA M) (H : Heap 𝓤) (A : Atoms 𝓤) (W : Given
       looped : (z : Z) → Sq W (At z) (runs C Λ En body.t-10 (atRet En Post))
       looped z = first ! $ blocks ! $ loops ! 𝓣 Nearer Nearer-wf At turns z
 
-  module _ (𝓣 : Tables 𝓤 H) (known-read : Triple 𝓤 (𝓣 .C #record·read) (Read 𝓤 H A at-mem run)) (known-said : Triple 𝓤 (𝓣 .C #record·said) (Said 𝓤 H A at-mem run)) (known-next : Triple 𝓤 (𝓣 .C #record·next) (Next 𝓤 H A at-mem run)) (known-lines : Triple 𝓤 (𝓣 .C #text·lines-in) (LinesIn 𝓤 H A at-mem run)) (known-opening : Triple 𝓤 (𝓣 .C #text·put-opening) (PutOpening 𝓤 H A at-mem run)) (known-put : Triple 𝓤 (𝓣 .C #text·put-step) (PutStep 𝓤 H A at-mem run)) (known-closing : Triple 𝓤 (𝓣 .C #text·put-closing) (PutClosing 𝓤 H A at-mem run)) (l₀ l₁ l₂ l₃ l₄ l₅ l₆ l₇ l₈ l₉ l₁₀ l₁₁ l₁₂ l₁₃ l₁₄ l₁₅ l₁₆ l₁₇ : ℕ) where
+  module _ (𝓣 : Tables 𝓤 H) (known-read : Triple 𝓤 (𝓣 .C #reading·read) (Read 𝓤 H A at-mem run)) (known-said : Triple 𝓤 (𝓣 .C #reading·said) (Said 𝓤 H A at-mem run)) (known-next : Triple 𝓤 (𝓣 .C #reading·next) (Next 𝓤 H A at-mem run)) (known-lines : Triple 𝓤 (𝓣 .C #text·lines-in) (LinesIn 𝓤 H A at-mem run)) (known-opening : Triple 𝓤 (𝓣 .C #text·put-opening) (PutOpening 𝓤 H A at-mem run)) (known-put : Triple 𝓤 (𝓣 .C #text·put-step) (PutStep 𝓤 H A at-mem run)) (known-closing : Triple 𝓤 (𝓣 .C #text·put-closing) (PutClosing 𝓤 H A at-mem run)) (l₀ l₁ l₂ l₃ l₄ l₅ l₆ l₇ l₈ l₉ l₁₀ l₁₁ l₁₂ l₁₃ l₁₄ l₁₅ l₁₆ l₁₇ : ℕ) where
     abbrev C₀ : Calls 𝓤 H
     C₀ = 𝓣 .C
 
@@ -588,7 +589,7 @@ module _ {M : Type 1} (𝓤 : URA M) (H : Heap 𝓤) (A : Atoms 𝓤) (W : Given
         rewrite ! 30 (λ (x : Val). ‵ (fat fullShare word l₅ 0 x)) (ap only (ism .0)) refl $ rewrite ! 30 (λ (j : ℕ). ‵ (fat fullShare word l₅ 0 (vint w64 j))) counted refl $
         keep ! (3 ∷ 1 ∷ 2 ∷ 4 ∷ 5 ∷ 6 ∷ 7 ∷ 8 ∷ 9 ∷ 10 ∷ 11 ∷ 12 ∷ 13 ∷ 14 ∷ 15 ∷ 16 ∷ 17 ∷ 18 ∷ 19 ∷ 20 ∷ 21 ∷ 22 ∷ 23 ∷ 24 ∷ 25 ∷ 26 ∷ 27 ∷ 28 ∷ 29 ∷ 30 ∷ 31 ∷ 32 ∷ 33 ∷ 34 ∷ 35 ∷ 36 ∷ 37 ∷ 38 ∷ 39 ∷ 40 ∷ 41 ∷ []) $ opens r begun t w is-t (verdict-is r t begun told)))))))))))))
 
-  walk : (𝓣 : Tables 𝓤 H) → Triple 𝓤 (𝓣 .C #record·read) (Read 𝓤 H A at-mem run) → Triple 𝓤 (𝓣 .C #record·said) (Said 𝓤 H A at-mem run) → Triple 𝓤 (𝓣 .C #record·next) (Next 𝓤 H A at-mem run) → Triple 𝓤 (𝓣 .C #text·lines-in) (LinesIn 𝓤 H A at-mem run) → Triple 𝓤 (𝓣 .C #text·put-opening) (PutOpening 𝓤 H A at-mem run) → Triple 𝓤 (𝓣 .C #text·put-step) (PutStep 𝓤 H A at-mem run) → Triple 𝓤 (𝓣 .C #text·put-closing) (PutClosing 𝓤 H A at-mem run) → Is (ShrSlice (named 1) κ′ u8) s (v ∷ [])
+  walk : (𝓣 : Tables 𝓤 H) → Triple 𝓤 (𝓣 .C #reading·read) (Read 𝓤 H A at-mem run) → Triple 𝓤 (𝓣 .C #reading·said) (Said 𝓤 H A at-mem run) → Triple 𝓤 (𝓣 .C #reading·next) (Next 𝓤 H A at-mem run) → Triple 𝓤 (𝓣 .C #text·lines-in) (LinesIn 𝓤 H A at-mem run) → Triple 𝓤 (𝓣 .C #text·put-opening) (PutOpening 𝓤 H A at-mem run) → Triple 𝓤 (𝓣 .C #text·put-step) (PutStep 𝓤 H A at-mem run) → Triple 𝓤 (𝓣 .C #text·put-closing) (PutClosing 𝓤 H A at-mem run) → Is (ShrSlice (named 1) κ′ u8) s (v ∷ [])
       → ent 𝓤 (onEntry 𝓤 H A put-text.signature (κ, (κ′, tt)) (q, (q′, tt)) args vals) (WpFn 𝓤 H (𝓣 .C) (𝓣 .Λ) code.function (v′ (length ys) ∷ v ∷ []) Post)
   walk 𝓣 known-read known-said known-next known-lines known-opening known-put known-closing is =
       qed W ((‵ (flft κ q) ⊛ ‵ (flft κ′ q′) ⊛ ‵ ftrue) ∷ ‵ (owns (MutSlice (named 0) κ u8 ∷ ShrSlice (named 1) κ′ u8 ∷ []) args vals) ∷ []) ∵ enter ! (𝓣 .C) (𝓣 .Λ) code.function (v′ (length ys) ∷ v ∷ []) _ $
@@ -599,7 +600,7 @@ module _ {M : Type 1} (𝓤 : URA M) (H : Heap 𝓤) (A : Atoms 𝓤) (W : Given
       keep ! (4 ∷ 0 ∷ 1 ∷ 2 ∷ 5 ∷ 6 ∷ 7 ∷ 8 ∷ 9 ∷ 10 ∷ 11 ∷ 12 ∷ 13 ∷ 14 ∷ 15 ∷ 16 ∷ 17 ∷ 18 ∷ 19 ∷ 20 ∷ 21 ∷ 22 ∷ 23 ∷ 24 ∷ 25 ∷ 26 ∷ 27 ∷ 28 ∷ 29 ∷ 30 ∷ 31 ∷ 32 ∷ 33 ∷ 34 ∷ 35 ∷ 36 ∷ 37 ∷ 38 ∷ 39 ∷ 40 ∷ []) $ reads 𝓣 known-read known-said known-next known-lines known-opening known-put known-closing l₀ l₁ l₂ l₃ l₄ l₅ l₆ l₇ l₈ l₉ l₁₀ l₁₁ l₁₂ l₁₃ l₁₄ l₁₅ l₁₆ l₁₇))))))))))))))))))
 
 module _ {M : Type 1} (𝓤 : URA M) (H : Heap 𝓤) (A : Atoms 𝓤) (W : Given 𝓤 H A) (mem : Memory → SProp 𝓤) (run : Routine → Fun 𝓤) where
-  put-text-walks : (𝓣 : Tables 𝓤 H) → Triple 𝓤 (𝓣 .C #record·read) (Read 𝓤 H A mem run) → Triple 𝓤 (𝓣 .C #record·said) (Said 𝓤 H A mem run) → Triple 𝓤 (𝓣 .C #record·next) (Next 𝓤 H A mem run) → Triple 𝓤 (𝓣 .C #text·lines-in) (LinesIn 𝓤 H A mem run) → Triple 𝓤 (𝓣 .C #text·put-opening) (PutOpening 𝓤 H A mem run) → Triple 𝓤 (𝓣 .C #text·put-step) (PutStep 𝓤 H A mem run) → Triple 𝓤 (𝓣 .C #text·put-closing) (PutClosing 𝓤 H A mem run)
+  put-text-walks : (𝓣 : Tables 𝓤 H) → Triple 𝓤 (𝓣 .C #reading·read) (Read 𝓤 H A mem run) → Triple 𝓤 (𝓣 .C #reading·said) (Said 𝓤 H A mem run) → Triple 𝓤 (𝓣 .C #reading·next) (Next 𝓤 H A mem run) → Triple 𝓤 (𝓣 .C #text·lines-in) (LinesIn 𝓤 H A mem run) → Triple 𝓤 (𝓣 .C #text·put-opening) (PutOpening 𝓤 H A mem run) → Triple 𝓤 (𝓣 .C #text·put-step) (PutStep 𝓤 H A mem run) → Triple 𝓤 (𝓣 .C #text·put-closing) (PutClosing 𝓤 H A mem run)
       → Walks 𝓤 H A put-text.ended stayed (WpFn 𝓤 H (𝓣 .C) (𝓣 .Λ) code.function) (put-text.clauses 𝓤 H A mem run)
   put-text-walks 𝓣 known-read known-said known-next known-lines known-opening known-put known-closing = walked 𝓤 H A put-text.ended stayed (put-text.clauses 𝓤 H A mem run) (WpFn 𝓤 H (𝓣 .C) (𝓣 .Λ) code.function)
       (λ κs. (slice-vals, (slice-vals, tt))) (λ κs. (mut-slice-tells (named 0) (κs .0) u8, (shr-slice-tells (named 1) (κs .1 .0) u8, tt)))
@@ -607,7 +608,7 @@ module _ {M : Type 1} (𝓤 : URA M) (H : Heap 𝓤) (A : Atoms 𝓤) (W : Given
       walk 𝓤 H A W mem run (κs .0) (κs .1 .0) (qs .0) (qs .1 .0) (a .0 .ptr .0) (a .0 .ptr .1) (a .0 .name) (a .0 .now) (a .1 .0) (are .0 .0 .1) long 𝓣 known-read known-said known-next known-lines known-opening known-put known-closing (are .1 .0)))
 
 put-text-meets : {M : Type 1} (𝓤 : URA M) (H : Heap 𝓤) (A : Atoms 𝓤) → Given 𝓤 H A → (mem : Memory → SProp 𝓤) (run : Routine → Fun 𝓤) (𝓣 : Tables 𝓤 H)
-    → Triple 𝓤 (𝓣 .C #record·read) (Read 𝓤 H A mem run) → Triple 𝓤 (𝓣 .C #record·said) (Said 𝓤 H A mem run) → Triple 𝓤 (𝓣 .C #record·next) (Next 𝓤 H A mem run) → Triple 𝓤 (𝓣 .C #text·lines-in) (LinesIn 𝓤 H A mem run) → Triple 𝓤 (𝓣 .C #text·put-opening) (PutOpening 𝓤 H A mem run) → Triple 𝓤 (𝓣 .C #text·put-step) (PutStep 𝓤 H A mem run) → Triple 𝓤 (𝓣 .C #text·put-closing) (PutClosing 𝓤 H A mem run)
+    → Triple 𝓤 (𝓣 .C #reading·read) (Read 𝓤 H A mem run) → Triple 𝓤 (𝓣 .C #reading·said) (Said 𝓤 H A mem run) → Triple 𝓤 (𝓣 .C #reading·next) (Next 𝓤 H A mem run) → Triple 𝓤 (𝓣 .C #text·lines-in) (LinesIn 𝓤 H A mem run) → Triple 𝓤 (𝓣 .C #text·put-opening) (PutOpening 𝓤 H A mem run) → Triple 𝓤 (𝓣 .C #text·put-step) (PutStep 𝓤 H A mem run) → Triple 𝓤 (𝓣 .C #text·put-closing) (PutClosing 𝓤 H A mem run)
     → Meets 𝓤 H A put-text.signature (WpFn 𝓤 H (𝓣 .C) (𝓣 .Λ) code.function) (put-text.spec 𝓤 H A mem run)
 put-text-meets 𝓤 H A W mem run 𝓣 known-read known-said known-next known-lines known-opening known-put known-closing = walk-meets 𝓤 H A put-text.ended stayed W
     (goes-slice 𝓤 H A W 2 0 tt (plain (λ _. u8)), (goes-none-slice 𝓤 H A W 2 (1 ∷ []) tt (plain (λ _. u8)) yes, tt))
@@ -619,9 +620,9 @@ put-text-spec 𝓤 H 𝓜 𝓖 𝓡 =
     entered 𝓤 H (tripleOf 𝓤 H (𝓖 .A) put-text.signature (put-text.spec 𝓤 H (𝓖 .A) (𝓜 .mem) (𝓡 .run)))
     (tables 𝓤 H 𝓜 𝓡 code.env .C) (tables 𝓤 H 𝓜 𝓡 code.env .Λ) #text·put-text code.function (code.unfolded 𝓤 H 𝓜 𝓡)
     (put-text-meets 𝓤 H (𝓖 .A) (givenOf 𝓤 H 𝓜 𝓖) (𝓜 .mem) (𝓡 .run) (tablesOf 𝓤 H 𝓜 (tables 𝓤 H 𝓜 𝓡 code.env))
-    (cited 𝓤 H (Read 𝓤 H (𝓖 .A) (𝓜 .mem) (𝓡 .run)) 𝓜 𝓡 code.env #record·read read-def.routine code.calls-record·read (read-thm.met 𝓤 H 𝓜 𝓖 𝓡))
-    (cited 𝓤 H (Said 𝓤 H (𝓖 .A) (𝓜 .mem) (𝓡 .run)) 𝓜 𝓡 code.env #record·said said-def.routine code.calls-record·said (said-thm.met 𝓤 H 𝓜 𝓖 𝓡))
-    (cited 𝓤 H (Next 𝓤 H (𝓖 .A) (𝓜 .mem) (𝓡 .run)) 𝓜 𝓡 code.env #record·next next-def.routine code.calls-record·next (next-thm.met 𝓤 H 𝓜 𝓖 𝓡))
+    (cited 𝓤 H (Read 𝓤 H (𝓖 .A) (𝓜 .mem) (𝓡 .run)) 𝓜 𝓡 code.env #reading·read read-def.routine code.calls-reading·read (read-thm.met 𝓤 H 𝓜 𝓖 𝓡))
+    (cited 𝓤 H (Said 𝓤 H (𝓖 .A) (𝓜 .mem) (𝓡 .run)) 𝓜 𝓡 code.env #reading·said said-def.routine code.calls-reading·said (said-thm.met 𝓤 H 𝓜 𝓖 𝓡))
+    (cited 𝓤 H (Next 𝓤 H (𝓖 .A) (𝓜 .mem) (𝓡 .run)) 𝓜 𝓡 code.env #reading·next next-def.routine code.calls-reading·next (next-thm.met 𝓤 H 𝓜 𝓖 𝓡))
     (cited 𝓤 H (LinesIn 𝓤 H (𝓖 .A) (𝓜 .mem) (𝓡 .run)) 𝓜 𝓡 code.env #text·lines-in lines-in-fn-def.routine code.calls-text·lines-in (lines-in-fn-thm.met 𝓤 H 𝓜 𝓖 𝓡))
     (cited 𝓤 H (PutOpening 𝓤 H (𝓖 .A) (𝓜 .mem) (𝓡 .run)) 𝓜 𝓡 code.env #text·put-opening put-opening-def.routine code.calls-text·put-opening (put-opening-thm.met 𝓤 H 𝓜 𝓖 𝓡))
     (cited 𝓤 H (PutStep 𝓤 H (𝓖 .A) (𝓜 .mem) (𝓡 .run)) 𝓜 𝓡 code.env #text·put-step put-step-def.routine code.calls-text·put-step (put-step-thm.met 𝓤 H 𝓜 𝓖 𝓡))

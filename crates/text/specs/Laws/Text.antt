@@ -22,9 +22,9 @@ use Rattle.distance.specs.Integers.Bounds.{Bound, _⊝_, of-width, fits, abs-bo
 use Rattle.distance.specs.Integers.Tests.{Test, holds, fails, test}
 use Rattle.text.specs.Text.{space, line-end, fix-word, silence-word, digit, digits, decimal, integer, silence-text, fix-line, fix-lines, trail-word, never-word, refused-word, end-line, mark-text, first-line, refusal-line, record-text, text}
 use Rattle.record.specs.Checks.{read-refusal}
-use Rattle.record.specs.Reading.{yields, moves, begins}
+use Rattle.reading.specs.Reading.{yields, moves, begins}
 use Rattle.record.specs.Laws.Head.{accepted-head}
-use Rattle.record.specs.Laws.Reading.{yields-it, moves-to-next}
+use Rattle.reading.specs.Laws.Reading.{yields-it, moves-to-next}
 use Rattle.record.specs.Laws.Trail.{fix-of, accepted-widest, fixes-from}
 use Rattle.format.specs.Laws.Numbers.{false-true}
 use Rattle.format.specs.Format.{mark-field, count-field, fixes, each}

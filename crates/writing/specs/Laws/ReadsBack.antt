@@ -27,8 +27,8 @@ use Rattle.writing.specs.Laws.Writing.{writes-fit}
 use Rattle.format.specs.Laws.Each.{length-each, each-shift}
 use Rattle.format.specs.Laws.Layout.{length-record}
 use Rattle.record.specs.Answers.{gives}
-use Rattle.record.specs.Reading.{times-of, xs-of, ys-of, silences-of, read-answer, times-read, xs-read, ys-read, silences-read}
-use Rattle.record.specs.Laws.Columns.{reads-exactly}
+use Rattle.reading.specs.Reading.{times-of, xs-of, ys-of, silences-of, read-answer, times-read, xs-read, ys-read, silences-read}
+use Rattle.reading.specs.Laws.Columns.{reads-exactly}
 use Rattle.record.specs.Laws.Scan.{Timed}
 use Rattle.record.specs.Laws.Silence.{NoSilence}
 use Rattle.record.specs.Laws.Accepted.{GoodFixes, accept, mark-never-applied, places-good}
