@@ -126,6 +126,20 @@ static void packed(uint32_t start, uint32_t end) {
         printf("from %u to %u: not packed\n", (unsigned)start, (unsigned)end);
 }
 
+/* Whether the cart came near the washer, on which leg first, and when it was closest
+ * there. */
+static void washed(int32_t x, int32_t y, uint32_t radius) {
+    struct trails_approach a = trails_near(record, sizeof record, x, y, radius);
+    printf("within %u of %d, %d: ", (unsigned)radius, (int)x, (int)y);
+    if (a.refusal != TRAILS_ACCEPTED)
+        printf("refused %u\n", (unsigned)a.refusal);
+    else if (a.approaches)
+        printf("washed, on leg %u, closest %llu/%llu s after the first fix\n", (unsigned)a.leg,
+               (unsigned long long)a.numerator, (unsigned long long)a.denominator);
+    else
+        printf("not washed\n");
+}
+
 /* The same trail with its silence: between the two ends nothing is said, and both stay. */
 static void with_silences(void) {
     struct trails_answer written = trails_write_silences(
@@ -138,6 +152,7 @@ static void with_silences(void) {
     where(1055, 0);
     packed(1000, 1080);
     packed(1051, 1059);
+    washed(250, 60, 60);
     aged("90 days", trails_age_by_days(record, sizeof record, 90, trails_built_in()));
     list();
 }
@@ -151,6 +166,7 @@ static void in_millimetres(void) {
         return;
     }
     where(1015, 500);
+    washed(2500, 600, 600);
     /* a table is in centimetres, and what it gives is in the record's unit */
     given(13);
     given(60);
@@ -174,6 +190,9 @@ int main(void) {
     packed(1000, 1080);
     packed(1000, 1050);
     packed(1000, 2000);
+    washed(250, 60, 60);
+    washed(250, 60, 52);
+    washed(250, 60, 32001);
 
     aged("tolerance 5", trails_age(record, sizeof record, 5));
     aged("tolerance 40000", trails_age(record, sizeof record, 40000));

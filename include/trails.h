@@ -27,13 +27,14 @@
  *   all lengths are in      centimetres          millimetres            as kind 1
  *   bytes of a fix          8                    12                     9
  *   length                  10 + 8 * count       10 + 12 * count        10 + 9 * count
- *   an x, a y and a         -16,000 to 16,000    -160,000 to 160,000    as kind 1
- *   box's edge
+ *   an x, a y, also of a    -16,000 to 16,000    -160,000 to 160,000    as kind 1
+ *   point, and a box's edge
  *   a tolerance, and a      0 to 32,000          0 to 60,000            as kind 1
  *   mark but 65,535
+ *   a radius                0 to 32,000          0 to 320,000           as kind 1
  *
- * Times are in seconds. Places, marks, tolerances and boxes are in the record's
- * own unit, and a call on a record takes and answers them so. A buffer may go on
+ * Times are in seconds. Places, marks, tolerances, boxes, points and radii are in the
+ * record's own unit, and a call on a record takes and answers them so. A buffer may go on
  * after the record; those bytes are ignored by every reader and kept by every
  * writer.
  *
@@ -46,8 +47,8 @@
  *   - each stretch is thinned by itself, so that both ends of every silence are
  *     always kept, each with its byte;
  *   - no place is given inside a silence: TRAILS_IN_SILENCE;
- *   - for crossings a silence has its two ends and nothing between them, and a yes
- *     that it gives has a denominator of 1;
+ *   - for crossings and approaches a silence has its two ends and nothing between
+ *     them, and a yes that it gives has a denominator of 1;
  *   - what is promised of an aged trail and its original holds at all times
  *     outside silences, and of the inside of a silence nothing is promised.
  * A record of kind 1 or 2 has no silence.
@@ -75,7 +76,7 @@
  *
  * REFUSALS. A refusal is one of the numbers below, and 0 is none. A call makes
  * those checks that its description names, in the order in which they stand below,
- * which isn't that of their numbers: 20, 22 and 23 come directly after 9, and 21 after
+ * which isn't that of their numbers: 20, 22, 23 and 16 come directly after 9, and 21 after
  * 12. Each is made over the whole record, or the whole table, before the next, and the
  * first that fails is the answer. A refused call leaves all buffers as they were. The
  * limits are those of the record's kind, or of the kind that is written; 20 and 21 turn
@@ -105,6 +106,7 @@ enum {
     TRAILS_BAD_SILENCE = 20,     /* a silence byte is neither 0 nor 1, or the last fix has 1 */
     TRAILS_BAD_ROW_COUNT = 22,   /* the table has no rows, or more than 32 */
     TRAILS_BAD_ROWS = 23,        /* days don't rise strictly, tolerances fall, or one is above 32,000 */
+    TRAILS_BAD_POINT = 16,       /* the point or the radius is beyond its limits */
     TRAILS_HIGH_TOLERANCE = 10,  /* the asked tolerance is above its limit */
     TRAILS_BAD_THOUSANDTHS = 11, /* the asked thousandths are above 999 */
     TRAILS_BAD_MOMENT = 12,      /* the moment is before the first fix or after the last */
@@ -229,6 +231,32 @@ struct trails_crossing {
     uint32_t crosses;
     uint64_t numerator;
     uint32_t denominator;
+};
+
+/* Whether a cart came near a point. approaches is 1 for yes and 0 for no. A yes has the
+ * first leg that comes within the radius, and on it the earliest time at which the cart
+ * is closest to the point, numerator / denominator seconds after the first fix. Leg k
+ * goes from fix k to fix k + 1, counted from 0 and both ends included; a trail of one fix
+ * has leg 0, at 0 / 1. The fraction isn't reduced. Let t1, x1, y1 and t2, x2, y2 be the
+ * leg's two fixes, t0 the first fix's time, x, y the point, dx = x2 - x1, dy = y2 - y1 and
+ *   s = (x - x1) * dx + (y - y1) * dy
+ *   - Where s is at most 0, as it is wherever a leg is at rest, the cart is closest at
+ *     the leg's start, at (t1 - t0) / 1; else, where s is at least dx * dx + dy * dy, at
+ *     its end, at (t2 - t0) / 1.
+ *   - Else it is closest between the two: denominator is dx * dx + dy * dy, and
+ *       numerator = denominator * (t1 - t0) + s * (t2 - t1)
+ *   - Of a silent leg, whatever s is, it is closest at the end that is nearer, and at the
+ *     start if both are as near: at (t1 - t0) / 1 or (t2 - t0) / 1.
+ * So the denominator is from 1 to 2,048,000,000, or to 204,800,000,000 of kind 2. Compare
+ * two times by their value; but the same trail at another time of the clock has the same
+ * numerator and denominator. Of a no, leg, numerator and denominator are 0, and where
+ * refusal isn't 0 all else is. */
+struct trails_approach {
+    uint32_t refusal;
+    uint32_t approaches;
+    uint32_t leg;
+    uint64_t numerator;
+    uint64_t denominator;
 };
 
 /* Whether the lent bytes begin with a record. Makes checks 1 to 9 and 20; where
@@ -359,16 +387,25 @@ struct trails_crossing trails_crosses(const uint8_t *record, size_t lent,
                                       int32_t left, int32_t right,
                                       int32_t bottom, int32_t top);
 
+/* Whether the cart came within a radius of the point x, y, both in the record's unit, at
+ * some time of the trail, fractions of seconds too: whether it was then at most the
+ * radius away. Between two fixes the cart is on the straight line in time, unless there
+ * is a silence between them, of which only the two ends count. A yes names the first leg
+ * that comes that near, which needn't be the nearest one, and when the cart is closest on
+ * it, which needn't be when it is first that near. Makes checks 1 to 9, 20 and 16. */
+struct trails_approach trails_near(const uint8_t *record, size_t lent,
+                                   int32_t x, int32_t y, uint32_t radius);
+
 /* Makes all agings of a list, one after the other. A call below 65,536 is
  * trails_age at that tolerance, and one from there on, as TRAILS_BY_TABLE has it, is
  * trails_age_by_days at call % 65,536 days by the lent table call / 65,536 - 1, counted
  * from 0: so each may have another. The tables are lent one after the other, each as its
  * TRAILS_TABLE_NUMBERS numbers: table k is numbers 65 * k to 65 * k + 64, and
  * table_numbers is how many numbers there are, not how many tables. One of which not all
- * 65 are lent is a table without rows; a list without agings by days may be lent none. Makes checks 1 to 9 and 20. Where none
- * fails, each byte afterwards is what these calls give one by one: those that are
- * turned away, by 10, 22 or 23, change nothing, and the calls after them are made.
- * turned_away is how many they were. STACK: as trails_age. */
+ * 65 are lent is a table without rows; a list without agings by days may be lent none.
+ * Makes checks 1 to 9 and 20. Where none fails, each byte afterwards is what these calls
+ * give one by one: those that are turned away, by 10, 22 or 23, change nothing, and the
+ * calls after them are made. turned_away is how many they were. STACK: as trails_age. */
 struct trails_run trails_run(uint8_t *record, size_t lent,
                              const uint64_t *calls, size_t call_count,
                              const uint16_t *tables, size_t table_numbers);
@@ -396,6 +433,22 @@ struct trails_crossing trails_crosses_after(uint8_t *record, size_t lent,
                                             uint32_t start, uint32_t end,
                                             int32_t left, int32_t right,
                                             int32_t bottom, int32_t top);
+
+/* Makes all agings of a list, and then asks what is left whether the cart came near a
+ * point. Makes checks 1 to 9, 20 and 16, before any aging. Where none fails, each byte is
+ * what trails_run leaves, and the answer is what trails_near then gives: its leg is one
+ * of the trail left. STACK: as trails_age.
+ * Of a record marked TRAILS_NEVER, the original, and E as for trails_crosses_after,
+ * where the fixes and the silences left and their distance from the original stand too:
+ *   - a yes means that at its time, which isn't inside a silence, the original is at most
+ *     radius + E from the point;
+ *   - a no means, if the radius is at least E, that at no time outside silences the
+ *     original is at most radius - E from the point. If the radius is below E, a no says
+ *     nothing of the original. */
+struct trails_approach trails_near_after(uint8_t *record, size_t lent,
+                                         const uint64_t *calls, size_t call_count,
+                                         const uint16_t *tables, size_t table_numbers,
+                                         int32_t x, int32_t y, uint32_t radius);
 
 #ifdef __cplusplus
 }

@@ -33,6 +33,8 @@ with-tolerance e = record {
   box = nothing .box;
   output = nothing .output;
   table = nothing .table;
+  point = nothing .point;
+  radius = nothing .radius;
 }
 
 abbrev pub age-refusal : List ℕ → (e : ℕ) → Option ℕ

@@ -9,13 +9,13 @@ use mathlib.Core.List.{List, [], _∷_}
 use mathlib.Core.Option.{Option, some, none}
 use Prim.Native.Nat.{ℕ, _+_, _*_, _≤_, _-_}
 use Rattle.distance.specs.Fix.{Fix}
-use Rattle.distance.specs.Place.{Time, From, Until, place}
+use Rattle.distance.specs.Place.{Time, From, Until, first-time, after-first, place}
 use Rattle.distance.specs.Silence.{silent, OutsideSilences}
 use Rattle.distance.specs.Box.{Box, In}
 use Rattle.format.specs.Kinds.{Kind}
 use Rattle.format.specs.Format.{kind-of, fixes}
 use Rattle.record.specs.Checks.{Given, asked-of, nothing, refusal-of, crossing, checks, sentence, FirstHolds}
-use Rattle.record.specs.Answers.{Answer, gives, turns-away, answer}
+use Rattle.record.specs.Answers.{Answer, gives, turns-away, answer, or-else}
 use Rattle.legs.specs.declared.Fraction.{Fraction}
 use Rattle.legs.specs.Legs.{raised, framed, leg-first}
 use Rattle.legs.specs.declared.Frame.{Frame}
@@ -27,14 +27,6 @@ pub record Crosses (l : List Fix) (box : Box) (s e : ℕ) (u : Time) : Type 0 wh
   pub closed : Until e u
   pub heard : OutsideSilences l u
   pub inside : In box (place l u)
-
-abbrev pub first-time : List Fix → ℕ
-first-time [] = 0
-first-time (a ∷ l) = a .t
-
--- The time n/d seconds after the first fix.
-abbrev pub after-first : List Fix → (n d : ℕ) → 1 ≤ d → Time
-after-first l n d h = record { p = d * first-time l + n; q = d; whole = h }
 
 -- Yes: n/d seconds after the first fix it crosses, and no time of the window that is earlier does. The limit is that of the trail's places.
 pub record Told (limit : ℕ) (l : List Fix) (box : Box) (s e n d : ℕ) : Type 0 where
@@ -71,10 +63,6 @@ SameCrossing K (some f) none = ⊥
 abbrev pub followed : Fix → Fix → Fix
 followed a b = cond (silent a) a b
 
-abbrev pub or-else : Option Fraction → Option Fraction → Option Fraction
-or-else (some f) r = some f
-or-else none r = r
-
 unfoldable pub first-from : (first : ℕ) → Fix → List Fix → Frame → (w v : ℕ) → Option Fraction
 first-from first a [] f w v = leg-first (raised first a) (raised first a) f w v
 first-from first a (b ∷ l) f w v = or-else (leg-first (raised first a) (raised first (followed a b)) f w v) (first-from first b l f w v)
@@ -96,6 +84,8 @@ asked-crossing s e box = record {
   box = box;
   output = nothing .output;
   table = nothing .table;
+  point = nothing .point;
+  radius = nothing .radius;
 }
 
 -- On lent bytes: "the crossing 1 to 9, 13, 14", and 20 after 9.

@@ -102,7 +102,7 @@ pub fn allowance(e: Tolerance, i: Fix, j: Fix) -> u64
 }
 
 // |z|, of every number of 64 bits but the least, which has no opposite.
-fn magnitude(z: i64) -> u64
+pub fn magnitude(z: i64) -> u64
     requires { ⌜ natAbs z ≤ 9223372036854775807 ⌝ }
     ensures { λ r. ⌜ r ≡ natAbs z ⌝ }
 {

@@ -72,6 +72,19 @@ pub fn greater(v: Words, w: Words) -> bool
     v.low > w.low
 }
 
+// Whether x² is at most y² + z²: in one word where it holds both, and else in two.
+pub fn square_at_most(x: u64, y: u64, z: u64) -> bool
+    requires { ⌜ (x < 1099511627776) × (y < 1099511627776) × (z < 1099511627776) ⌝ }
+    ensures { λ r. ⌜ r ≡ leb (x * x) (y * y + z * z) ⌝ }
+{
+    if x < 4294967296 {
+        if y + z < 4294967296 {
+            return x * x <= y * y + z * z;
+        }
+    }
+    !greater(sum_of_squares(x, 0), sum_of_squares(y, z))
+}
+
 // w is at most n, a number of one word.
 pub fn at_most(w: Words, n: u64) -> bool
     requires { ⌜ w .low < 4294967296 ⌝ }

@@ -13,6 +13,7 @@ use Rattle.reading.specs.Reading.{yields}
 use Rattle.table.specs.Answers.{tableOf, ClearedAfter}
 use Rattle.moment.specs.Moment.{Standing}
 use Rattle.legs.specs.declared.Fraction.{Fraction}
+use Rattle.approach.specs.declared.Approach.{Approach}
 use Rattle.export.specs.declared.Head.{Head}
 use Rattle.export.specs.declared.Step.{Step}
 use Rattle.export.specs.declared.Answer.{Answer as Numbers}
@@ -21,6 +22,7 @@ use Rattle.export.specs.declared.Applied.{Applied}
 use Rattle.export.specs.declared.Run.{Run}
 use Rattle.export.specs.declared.Spot.{Spot}
 use Rattle.export.specs.declared.Crossing.{Crossing}
+use Rattle.export.specs.declared.Approach.{Approach as ApproachNumbers}
 
 -- A record's kind, count and mark, unless it is turned away.
 abbrev pub checked-numbers : Option ℕ → List ℕ → Head
@@ -75,3 +77,9 @@ abbrev pub crossing-numbers : Answer (Option Fraction) → Crossing
 crossing-numbers (gives (some f)) = record { refusal = 0; crosses = 1; numerator = f .num; denominator = f .den }
 crossing-numbers (gives none) = record { refusal = 0; crosses = 0; numerator = 0; denominator = 0 }
 crossing-numbers (turns-away k) = record { refusal = k; crosses = 0; numerator = 0; denominator = 0 }
+
+-- Yes with its leg and its time or no, unless there is a refusal.
+abbrev pub approach-numbers : Answer (Option Approach) → ApproachNumbers
+approach-numbers (gives (some A)) = record { refusal = 0; approaches = 1; leg = A .leg; numerator = A .num; denominator = A .den }
+approach-numbers (gives none) = record { refusal = 0; approaches = 0; leg = 0; numerator = 0; denominator = 0 }
+approach-numbers (turns-away k) = record { refusal = k; approaches = 0; leg = 0; numerator = 0; denominator = 0 }

@@ -10,7 +10,7 @@ use lib.IntN.{ℤ, pos}
 use Rattle.distance.specs.Fix.{Fix}
 use Rattle.format.specs.Kinds.{Kind}
 use Rattle.format.specs.Format.{kind-field, count-field, mark-field, of-head}
-use Rattle.record.specs.Checks.{Check, few-bytes, other-kind, bad-count, bad-length, short-record, bad-mark, misplaced, unordered, long-span, high-tolerance, bad-thousandths, bad-moment, bad-window, bad-box, short-output, bad-silence, moment-in-silence, bad-row-count, bad-rows, Row, number, first, FirstHolds, this, not-before, refusal-of, placing, crossing as crosses, read-refusal, load-refusal}
+use Rattle.record.specs.Checks.{Check, few-bytes, other-kind, bad-count, bad-length, short-record, bad-mark, misplaced, unordered, long-span, high-tolerance, bad-thousandths, bad-moment, bad-window, bad-box, short-output, bad-silence, moment-in-silence, bad-row-count, bad-rows, bad-point, Row, number, first, FirstHolds, this, not-before, refusal-of, placing, crossing as crosses, approaching, read-refusal, load-refusal}
 use Rattle.record.specs.Answers.{Answer, gives, turns-away, answer as told, unless}
 use Rattle.record.specs.Examples.{row}
 use Rattle.table.specs.Answers.{row-at, tableOf}
@@ -19,12 +19,14 @@ use Rattle.writing.specs.Writing.{write-refusal, write-answer}
 use Rattle.record.specs.Laws.First.{first-exactly}
 use Rattle.record.specs.Laws.Head.{accepted-head}
 use Rattle.format.specs.Laws.Layout.{of-head-field}
+use Rattle.distance.specs.Place.{Point, point-at}
 use Rattle.distance.specs.Box.{Box, box-with}
 use Rattle.reading.specs.Reading.{yields, read-answer}
 use Rattle.aging.specs.Aging.{Call, age-refusal, age-answer, days-refusal, apply-answer, days-answer}
-use Rattle.questions.specs.Agings.{run-answer, after-answer}
+use Rattle.questions.specs.Agings.{run-answer, after-answer, near-after-answer}
 use Rattle.moment.specs.Moment.{asked-moment, place-answer}
 use Rattle.crossing.specs.Crossing.{asked-crossing, cross-answer}
+use Rattle.approach.specs.Approach.{asked-near, near-answer}
 use Rattle.moment.specs.declared.Spot.{Spot}
 use Rattle.moment.specs.declared.Placed.{Placed}
 use Rattle.moment.specs.declared.Placed.the-variants as Place
@@ -33,7 +35,7 @@ use Rattle.export.specs.declared.Head.{Head}
 use Rattle.export.specs.declared.Loaded.{Loaded}
 use Rattle.export.specs.declared.Step.{Step}
 use Rattle.export.specs.declared.Spot.{Spot as Numbers}
-use Rattle.export.specs.Interface.{checked-numbers, head-numbers, yield-answer, step-numbers, value-numbers, refusal-number, LoadNumbers, applied-numbers, run-numbers, spot-numbers, crossing-numbers}
+use Rattle.export.specs.Interface.{checked-numbers, head-numbers, yield-answer, step-numbers, value-numbers, refusal-number, LoadNumbers, applied-numbers, run-numbers, spot-numbers, crossing-numbers, approach-numbers}
 
 -- ---- 0 is none
 numbered : (c : Check) → 1 ≤ number c
@@ -56,6 +58,7 @@ numbered bad-silence = omega arith
 numbered moment-in-silence = omega arith
 numbered bad-row-count = omega arith
 numbered bad-rows = omega arith
+numbered bad-point = omega arith
 
 holds-numbered : {says : Check → Bool} {k : ℕ} {l : List Check} → FirstHolds says k l → 1 ≤ k
 holds-numbered (this {c} h e) = let p = numbered c in omega arith
@@ -124,7 +127,7 @@ all-read-none b h = answer-none (λ a. value-numbers a .refusal) (λ k. refl) _ 
 pub run-made-none : (b : List ℕ) (calls : List Call) → run-numbers (run-answer b calls) .refusal ≡ 0 → read-refusal b ≡ none
 run-made-none b calls h = answer-none (λ a. run-numbers a .refusal) (λ k. refl) _ _ _ h
 
--- .. the place is given, the crossing is told or denied, and so is the one after a list.
+-- .. the place is given, the crossing and the radius question are told or denied, and so are those after a list.
 pub after-none : (b : List ℕ) (calls : List Call) (s e : ℕ) (x : Box) → crossing-numbers (after-answer b calls s e x) .refusal ≡ 0 → refusal-of crosses b (asked-crossing s e x) ≡ none
 after-none b calls s e x h = answer-none (λ a. crossing-numbers a .refusal) (λ k. refl) _ _ _ h
 
@@ -133,6 +136,12 @@ place-none b s m h = answer-none (λ a. spot-numbers a .refusal) (λ k. refl) _ 
 
 pub crossing-none : (b : List ℕ) (s e : ℕ) (x : Box) → crossing-numbers (cross-answer b s e x) .refusal ≡ 0 → refusal-of crosses b (asked-crossing s e x) ≡ none
 crossing-none b s e x h = answer-none (λ a. crossing-numbers a .refusal) (λ k. refl) _ _ _ h
+
+pub near-none : (b : List ℕ) (c : Point) (r : ℕ) → approach-numbers (near-answer b c r) .refusal ≡ 0 → refusal-of approaching b (asked-near c r) ≡ none
+near-none b c r h = answer-none (λ a. approach-numbers a .refusal) (λ k. refl) _ _ _ h
+
+pub near-after-none : (b : List ℕ) (calls : List Call) (c : Point) (r : ℕ) → approach-numbers (near-after-answer b calls c r) .refusal ≡ 0 → refusal-of approaching b (asked-near c r) ≡ none
+near-after-none b calls c r h = answer-none (λ a. approach-numbers a .refusal) (λ k. refl) _ _ _ h
 
 -- ---- the reading function
 pub step-found : (kind : ℕ) (f : Fix) (x y : ℤ) (s : ℕ) (o : Option Fix) → x ≡ f .x → y ≡ f .y → s ≡ f .silence → some f ≡ o
@@ -167,3 +176,6 @@ same-asked f h k m = rw (h, k, m) refl
 
 pub same-box : {x y z w a b c d : ℤ} → x ≡ a → y ≡ b → z ≡ c → w ≡ d → box-with x y z w ≡ box-with a b c d
 same-box h k m n = rw (h, k, m, n) refl
+
+pub same-point : {x y a b : ℤ} → x ≡ a → y ≡ b → point-at x y ≡ point-at a b
+same-point h k = rw (h, k) refl

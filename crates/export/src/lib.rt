@@ -98,6 +98,17 @@ pub struct Crossing {
     pub denominator: u32,
 }
 
+// A refusal, or whether the trail comes near the point, and then the first leg that does, counted from 0, and the time of closest approach on it,
+// numerator/denominator seconds after the first fix.
+#[repr(C)]
+pub struct Approach {
+    pub refusal: u32,
+    pub approaches: u32,
+    pub leg: u32,
+    pub numerator: u64,
+    pub denominator: u64,
+}
+
 fn wide(k: u8) -> u32
     ensures { λ r. ⌜ r ≡ k ⌝ }
 {

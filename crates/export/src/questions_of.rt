@@ -1,7 +1,11 @@
 // The questions and the lists of agings, for programs in other languages.
+use crate::Approach;
 use crate::Crossing;
 use crate::Run;
 use crate::Spot;
+use approach::Approached;
+use approach::Point;
+use approach::Radius;
 use crossing::Crossed;
 use crossing::Edges;
 use crossing::Window;
@@ -10,17 +14,20 @@ use distance::Seconds;
 use moment::Placed;
 use questions::Ran;
 ghost use mathlib.Core.Path.{_≡_};
+ghost use Rattle.distance.specs.Place.{point-at};
 ghost use Rattle.distance.specs.Box.{box-with};
 ghost use Rattle.format.specs.Format.{never, mark-field};
 ghost use Rattle.record.specs.Checks.{IsAccepted};
 ghost use Rattle.moment.specs.Answers.{placed};
 ghost use Rattle.crossing.specs.Answers.{crossed, boxOf};
+ghost use Rattle.approach.specs.Answers.{approached, pointOf};
 ghost use Rattle.moment.specs.Moment.{place-answer};
 ghost use Rattle.crossing.specs.Crossing.{cross-answer, CrossMeans};
-ghost use Rattle.questions.specs.Agings.{run, run-answer, after-answer, left-after, calls-of};
+ghost use Rattle.approach.specs.Approach.{near-answer, NearMeans};
+ghost use Rattle.questions.specs.Agings.{run, run-answer, after-answer, left-after, near-after-answer, near-left-after, calls-of};
 ghost use Rattle.questions.specs.Answers.{ran};
 ghost use Rattle.questions.specs.Claim.{Claim};
-ghost use Rattle.export.specs.Interface.{spot-numbers, crossing-numbers, run-numbers};
+ghost use Rattle.export.specs.Interface.{spot-numbers, crossing-numbers, approach-numbers, run-numbers};
 
 fn spot_of(p: Placed) -> Spot
     ensures { λ r. ⌜ r ≡ spot-numbers (placed p) ⌝ }
@@ -73,6 +80,34 @@ fn crossing_of(c: Crossed) -> Crossing
     }
 }
 
+fn approach_of(c: Approached) -> Approach
+    ensures { λ r. ⌜ r ≡ approach-numbers (approached c) ⌝ }
+{
+    match c {
+        Approached::Told(f) => Approach {
+            refusal: 0,
+            approaches: 1,
+            leg: f.leg,
+            numerator: f.num,
+            denominator: f.den,
+        },
+        Approached::Denied => Approach {
+            refusal: 0,
+            approaches: 0,
+            leg: 0,
+            numerator: 0,
+            denominator: 0,
+        },
+        Approached::Refused(k) => Approach {
+            refusal: crate::wide(k),
+            approaches: 0,
+            leg: 0,
+            numerator: 0,
+            denominator: 0,
+        },
+    }
+}
+
 fn window(start: u32, end: u32) -> Window
     ensures { λ r. ⌜ (r .start .0 ≡ start) × (r .end .0 ≡ end) ⌝ }
 {
@@ -90,6 +125,15 @@ fn edges(left: i32, right: i32, bottom: i32, top: i32) -> Edges
         right: Coordinate(right),
         bottom: Coordinate(bottom),
         top: Coordinate(top),
+    }
+}
+
+fn point(x: i32, y: i32) -> Point
+    ensures { λ r. ⌜ pointOf r ≡ point-at x y ⌝ }
+{
+    Point {
+        x: Coordinate(x),
+        y: Coordinate(y),
     }
 }
 
@@ -117,6 +161,15 @@ pub extern "C" fn trails_crosses(
 {
     let c = crossing::crosses(b, window(start, end), edges(left, right, bottom, top));
     crossing_of(c)
+}
+
+// Whether the trail comes within a radius of a point.
+#[no_mangle]
+pub extern "C" fn trails_near(b: &[u8], x: i32, y: i32, radius: u32) -> Approach
+    ensures { λ r. ⌜ (r ≡ approach-numbers (near-answer (now (b .entry)) (point-at x y) radius)) × NearMeans (now (b .entry)) (point-at x y) radius (near-answer (now (b .entry)) (point-at x y) radius) ⌝ }
+{
+    let c = approach::near(b, point(x, y), Radius(radius));
+    approach_of(c)
 }
 
 // What making a list answers, as numbers.
@@ -168,4 +221,20 @@ pub extern "C" fn trails_crosses_after(
         edges(left, right, bottom, top),
     );
     crossing_of(c)
+}
+
+// The same with a radius question in the crossing's place.
+#[no_mangle]
+pub extern "C" fn trails_near_after(
+    b: &mut [u8],
+    calls: &[u64],
+    tables: &[u16],
+    x: i32,
+    y: i32,
+    radius: u32,
+) -> Approach
+    ensures { λ r. ⌜ (r ≡ approach-numbers (near-after-answer (now (b .entry)) (calls-of (now (tables .entry)) (now (calls .entry))) (point-at x y) radius)) × (now (b .exit) ≡ near-left-after (now (b .entry)) (calls-of (now (tables .entry)) (now (calls .entry))) (point-at x y) radius) × (IsAccepted (now (b .entry)) → mark-field (now (b .entry)) ≡ never → Claim (now (b .entry)) (calls-of (now (tables .entry)) (now (calls .entry)))) ⌝ }
+{
+    let c = questions::near_after(b, calls, tables, point(x, y), Radius(radius));
+    approach_of(c)
 }

@@ -5,8 +5,8 @@ use mathlib.Core.Option.{Option, some, none}
 use mathlib.Core.Bool.{cond}
 use Prim.Native.Nat.{ℕ, _+_, _-_, _/_, _%_, max}
 use lib.Dec.{ltb}
-use Rattle.distance.specs.Fix.{Fix, last-of}
-use Rattle.distance.specs.Place.{Time, From, Until}
+use Rattle.distance.specs.Fix.{Fix}
+use Rattle.distance.specs.Place.{Point}
 use Rattle.distance.specs.Box.{Box}
 use Rattle.format.specs.Kinds.{Kind}
 use Rattle.format.specs.Format.{never, fixes}
@@ -17,6 +17,8 @@ use Rattle.thinning.specs.Thinning.{thinned}
 use Rattle.aging.specs.Aging.{Call, by-tolerance, by-days, left-by, answered, applies}
 use Rattle.legs.specs.declared.Fraction.{Fraction}
 use Rattle.crossing.specs.Crossing.{cross-refusal, first-crossing}
+use Rattle.approach.specs.declared.Approach.{Approach}
+use Rattle.approach.specs.Approach.{near-refusal, first-near}
 
 -- "Every call [..] gets the buffer as the call before it left it, and nobody else writes it meanwhile."
 unfoldable pub run : List ℕ → List Call → List ℕ
@@ -36,13 +38,28 @@ refused-calls b (c ∷ calls) = one-if-refused (answered b c) + refused-calls (l
 abbrev pub run-answer : List ℕ → List Call → Answer ℕ
 run-answer b calls = answer (read-refusal b) (refused-calls b calls)
 
--- A crossing asked after a list, as one call: whether the question is refused is decided first, and then "all lent bytes untouched"; else the list is made
--- and the crossing is that of what is left. (`asked-after` of Laws/Asked.antt: it is what the crossing alone answers of what the list leaves.)
+-- A QUESTION ASKED AFTER A LIST, as one call: whether the question is refused is decided first, and then "all lent bytes untouched"; else the list is made and the
+-- question is that of what is left. `asks` is the question's refusal of lent bytes, and `tells` what it gives of fixes. (`asked-after` of Laws/Asked.antt: it is what
+-- the question alone answers of what the list leaves.)
+abbrev pub answer-then : {A : Type 0} → (asks : List ℕ → Option ℕ) → (tells : List Fix → A) → List ℕ → List Call → Answer A
+answer-then asks tells b calls = answer (asks b) (tells (fixes (run b calls)))
+
+abbrev pub left-then : (asks : List ℕ → Option ℕ) → List ℕ → List Call → List ℕ
+left-then asks b calls = unless (asks b) b (run b calls)
+
+-- the crossing ..
 abbrev pub after-answer : List ℕ → List Call → (s e : ℕ) → Box → Answer (Option Fraction)
-after-answer b calls s e box = answer (cross-refusal b s e box) (first-crossing (fixes (run b calls)) box s e)
+after-answer b calls s e box = answer-then (λ d. cross-refusal d s e box) (λ l. first-crossing l box s e) b calls
 
 abbrev pub left-after : List ℕ → List Call → (s e : ℕ) → Box → List ℕ
-left-after b calls s e box = unless (cross-refusal b s e box) b (run b calls)
+left-after b calls s e box = left-then (λ d. cross-refusal d s e box) b calls
+
+-- .. and the radius question
+abbrev pub near-after-answer : List ℕ → List Call → Point → (r : ℕ) → Answer (Option Approach)
+near-after-answer b calls c r = answer-then (λ d. near-refusal d c r) (λ l. first-near l c r) b calls
+
+abbrev pub near-left-after : List ℕ → List Call → Point → (r : ℕ) → List ℕ
+near-left-after b calls c r = left-then (λ d. near-refusal d c r) b calls
 
 -- "a plain book, fed each call's arguments and nothing from the program's record. It holds the original's fixes, never changed, and E, at first none."
 -- Their kind stands beside them, as never changed: E is in its unit, and a call's tolerance is held to its limit.
@@ -81,11 +98,6 @@ mark-of (some E) = E
 unfoldable pub counts-as : Option ℕ → ℕ
 counts-as none = 0
 counts-as (some E) = E
-
--- A time that is asked of a trail: from its first fix to its last.
-abbrev pub AskedOf : List Fix → Time → Type 0
-AskedOf [] u = ⊥
-AskedOf (a ∷ l) u = From (a .t) u × Until ((last-of a l) .t) u
 
 -- ---- a list of calls as numbers, beside a lent list of tables (`table-at` of the table's Table.antt). Below 65,536 a number is a tolerance. From there on it is a
 -- day, n % 65,536, by one of the tables, which n / 65,536 counts from 1. Every number is a call, and every list of calls that anybody could make has its numbers and

@@ -4,19 +4,21 @@
 use mathlib.Core.Path.{_≡_}
 use mathlib.Core.List.{List, [], _∷_}
 use mathlib.Core.Option.{Option, some, none}
-use Prim.Native.Nat.{ℕ}
+use Prim.Native.Nat.{ℕ, _+_, _≤_}
 use lib.ListN.{length, drop}
 use Rattle.distance.specs.Fix.{Fix}
-use Rattle.distance.specs.Place.{Time, From, Until, place, Proper, Near}
+use Rattle.distance.specs.Place.{Time, From, Until, AskedOf, after-first, Point, place, Proper, Near}
 use Rattle.distance.specs.Silence.{in-silence, OutsideSilences}
 use Rattle.distance.specs.Box.{Box, In, NearBox, NearSide}
 use Rattle.format.specs.Format.{kind-of, mark-field, length-field, fixes}
-use Rattle.record.specs.Checks.{IsAccepted, bad-window, bad-box, sentence, FirstHolds, asked-of}
+use Rattle.record.specs.Checks.{IsAccepted, bad-window, bad-box, bad-point, sentence, FirstHolds, asked-of}
 use Rattle.record.specs.Answers.{Answer, gives, turns-away}
 use Rattle.aging.specs.Aging.{Call}
 use Rattle.legs.specs.declared.Fraction.{Fraction}
-use Rattle.crossing.specs.Crossing.{Told, Denied, after-first, asked-crossing, cross-answer}
-use Rattle.questions.specs.Agings.{Book, new-book, fed-all, run, after-answer, kept-at, mark-of, counts-as, AskedOf}
+use Rattle.crossing.specs.Crossing.{Told, Denied, asked-crossing, cross-answer}
+use Rattle.approach.specs.declared.Approach.{Approach}
+use Rattle.approach.specs.Approach.{Comes, ToldNear, DeniedNear, asked-near, near-answer}
+use Rattle.questions.specs.Agings.{Book, new-book, fed-all, run, after-answer, near-after-answer, kept-at, mark-of, counts-as}
 
 -- What the crossing's answer on the aged record c says of the original, for one window from s to e and one box.
 pub data CrossingSays (E : ℕ) (original : List Fix) (c : List ℕ) (s e : ℕ) (box : Box) : Answer (Option Fraction) → Type 0 where
@@ -28,6 +30,17 @@ pub data CrossingSays (E : ℕ) (original : List Fix) (c : List ℕ) (s e : ℕ)
   -- denied: true of the aged trail, and whenever in the window, outside its silences, the original is in the box, it is at most E from one of the box's sides
   says-denied : Denied (fixes c) box s e → ((u : Time) → From s u → Until e u → OutsideSilences original u → In box (place original u) → NearSide E box (place original u))
       → CrossingSays E original c s e box (gives none)
+
+-- What the radius question's answer on the aged record c says of the original, for one point and one radius. Document 02, item 2: "After any list of demand 3, a yes at
+-- radius r means that the original came within r + E."
+pub data NearSays (E : ℕ) (original : List Fix) (c : List ℕ) (p : Point) (r : ℕ) : Answer (Option Approach) → Type 0 where
+  -- turned away by 16 and by nothing else, whose sentence holds
+  says-outside : {k : ℕ} → FirstHolds (sentence (kind-of c) (asked-of c (asked-near p r))) k (bad-point ∷ []) → NearSays E original c p r (turns-away k)
+  -- yes: true of the aged trail, and at that time, which is outside its silences, the original is within r + E of the point
+  says-near : {A : Approach} (t : ToldNear (fixes c) p r (A .leg) (A .num) (A .den)) → Comes original p (r + E) (after-first (fixes c) (A .num) (A .den) (t .some-denominator))
+      → NearSays E original c p r (gives (some A))
+  -- no: true of the aged trail, and at no time outside its silences is the original within r − E of the point: within no s that is at most r when E is added
+  says-far : DeniedNear (fixes c) p r → ((s : ℕ) → s + E ≤ r → DeniedNear original p s) → NearSays E original c p r (gives none)
 
 -- The book after the list, and the buffer. E and all lengths are in the original's unit.
 abbrev pub book : List ℕ → List Call → Book
@@ -56,5 +69,8 @@ pub record Claim (b : List ℕ) (calls : List Call) : Type 0 where
   pub near : (u : Time) → AskedOf ((book b calls) .original) u → OutsideSilences ((book b calls) .original) u → Near (bound-after b calls) (place ((book b calls) .original) u) (place (fixes (run b calls)) u)
   -- a crossing asked after the list is the crossing of what the list left ..
   pub asked-then : (s e : ℕ) (box : Box) → after-answer b calls s e box ≡ cross-answer (run b calls) s e box
-  -- .. and told or denied it is true of the original within E
+  -- .. and a radius question likewise
+  pub near-asked-then : (p : Point) (r : ℕ) → near-after-answer b calls p r ≡ near-answer (run b calls) p r
+  -- and told or denied, each is true of the original, within E as its type says
   pub crossings : (s e : ℕ) (box : Box) → CrossingSays (bound-after b calls) ((book b calls) .original) (run b calls) s e box (cross-answer (run b calls) s e box)
+  pub approaches : (p : Point) (r : ℕ) → NearSays (bound-after b calls) ((book b calls) .original) (run b calls) p r (near-answer (run b calls) p r)

@@ -25,18 +25,21 @@ use Rattle.table.specs.Answers.{tableOf}
 use Rattle.table.specs.Examples.{built-in-numbers, own-numbers, full, full-held}
 use Rattle.legs.specs.declared.Fraction.{Fraction}
 use Rattle.crossing.specs.Crossing.{first-crossing, first-from, cross-answer}
+use Rattle.approach.specs.declared.Approach.{Approach}
+use Rattle.approach.specs.Approach.{heard-part, silent-part, near-part, leg-near, near-from, first-near, near-answer}
 use Rattle.legs.specs.Legs.{leg-first, leg-times, axis-times, first-of, later-of, earlier-of}
 use Rattle.record.specs.Examples.{MovableRow, movable-rows, row}
 use Rattle.record.specs.Moved.{moved-record}
 use Rattle.record.specs.Tenfold.{tenfold-mark, tenfold-record}
-use Rattle.questions.specs.Agings.{run, after-answer, call-of, calls-of}
+use Rattle.questions.specs.Agings.{run, answer-then, left-then, after-answer, near-after-answer, near-left-after, call-of, calls-of}
 use Rattle.questions.specs.Claim.{Claim}
 use Rattle.questions.specs.Tenfold.{TenfoldCalls, no-calls, and-then, all-answered, TenfoldClaim}
-use Rattle.questions.specs.Laws.Moved.{after-answer-moved}
+use Rattle.questions.specs.Laws.Moved.{after-answer-moved, near-after-moved}
 use Rattle.questions.specs.Laws.Calls.{tolerance-16, days-16, Lent, numbers-of}
 use Rattle.questions.specs.Laws.Claim.{claim}
 use Rattle.questions.specs.Laws.Tenfold.{made-tenfold}
 use Rattle.distance.specs.Fix.{last-of}
+use Rattle.distance.specs.Place.{point-at}
 
 abbrev pub lent : List ℕ
 lent =
@@ -192,10 +195,35 @@ pub crossings : answers ≡ gives (some (record { num = 100; den = 20 })) ∷ gi
 unfolding first sentence some-outside some-other-silence some-early-after some-early last-of of-ends kind-of fix-from fix-at each number-at signed first-crossing first-from leg-first leg-times axis-times first-of later-of earlier-of
 crossings = refl
 
+-- ---- and radius questions: the cart was at (20, 0) after 10 seconds. Thinning at 25 leaves a trail at rest, 20 from there: a no at 19 says nothing of the original,
+-- since 19 is below 25, and a yes at 20 that the original was then within 45
+abbrev pub near-answers : List (Answer (Option Approach))
+near-answers = near-answer lent (point-at (pos 20) (pos 0)) 0 ∷ near-answer left-at-25 (point-at (pos 20) (pos 0)) 19 ∷ near-answer left-at-25 (point-at (pos 20) (pos 0)) 20
+    ∷ near-answer lent (point-at (pos 16001) (pos 0)) 0 ∷ near-answer lent-in-kind-2 (point-at (pos 200) (pos 0)) 0 ∷ near-answer left-at-32001 (point-at (pos 200) (pos 0)) 199
+    ∷ near-answer (lent-in-kind-3 25 0) (point-at (pos 20) (pos 0)) 0 ∷ []
+
+pub approaches : near-answers ≡ gives (some (record { leg = 0; num = 10; den = 1 })) ∷ gives none ∷ gives (some (record { leg = 0; num = 0; den = 1 }))
+    ∷ turns-away 16 ∷ gives (some (record { leg = 0; num = 10; den = 1 })) ∷ gives none
+    ∷ gives (some (record { leg = 0; num = 10; den = 1 })) ∷ []
+unfolding first sentence some-outside some-other-silence some-early-after some-early last-of of-ends kind-of fix-from fix-at each number-at signed first-near near-from leg-near near-part heard-part silent-part
+approaches = refl
+
+-- .. and with the list, in one call: a point that is turned away leaves the list unmade
+pub approaches-after : (near-after-answer lent (by-tolerance 25 ∷ []) (point-at (pos 20) (pos 0)) 20 ≡ gives (some (record { leg = 0; num = 0; den = 1 })))
+    × (near-left-after lent (by-tolerance 25 ∷ []) (point-at (pos 20) (pos 0)) 20 ≡ left-at-25)
+    × (near-after-answer lent (by-tolerance 25 ∷ []) (point-at (pos 16001) (pos 0)) 20 ≡ turns-away 16)
+    × (near-left-after lent (by-tolerance 25 ∷ []) (point-at (pos 16001) (pos 0)) 20 ≡ lent)
+unfolding answer-then left-then run thinned-record new-mark last-row thinning thin-each stretches joined thin thin-span furthest sooner every but-last last-of deviation allowance first sentence some-bad-row some-outside some-other-silence some-early-after some-early of-ends kind-of fix-from fix-at each number-at signed unsigned bytes-of fix-to fix-bytes all-bytes header-bytes record-bytes first-near near-from leg-near near-part heard-part silent-part
+approaches-after = (refl, refl, refl, refl)
+
 -- ---- the law of a moved clock and a list, of bytes that are accepted and of refused ones
 pub movable-after : All (λ (m : MovableRow). after-answer (moved-record (m .by) (m .buffer)) (by-days 7 built-in ∷ by-tolerance 32001 ∷ []) (moved (m .by) (m .asked)) (moved (m .by) (m .asked)) shelf
     ≡ after-answer (m .buffer) (by-days 7 built-in ∷ by-tolerance 32001 ∷ []) (m .asked) (m .asked) shelf) movable-rows
 movable-after = all-always (λ (m : MovableRow). after-answer-moved (m .by) (m .buffer) (by-days 7 built-in ∷ by-tolerance 32001 ∷ []) (m .bytes) (m .movable) (m .asked) (m .asked) shelf (m .asked-stays) (m .asked-stays)) movable-rows
+
+pub movable-near-after : All (λ (m : MovableRow). near-after-answer (moved-record (m .by) (m .buffer)) (by-days 7 built-in ∷ by-tolerance 32001 ∷ []) (point-at (pos 3) (pos 4)) 5
+    ≡ near-after-answer (m .buffer) (by-days 7 built-in ∷ by-tolerance 32001 ∷ []) (point-at (pos 3) (pos 4)) 5) movable-rows
+movable-near-after = all-always (λ (m : MovableRow). near-after-moved (m .by) (m .buffer) (by-days 7 built-in ∷ by-tolerance 32001 ∷ []) (m .bytes) (m .movable) (point-at (pos 3) (pos 4)) 5) movable-rows
 
 -- ---- CENTIMETRES AND MILLIMETRES: the buffer above, and its trail in millimetres. The claim holds of every two lists of the same agings, such as these: at 12 and
 -- 120, at a tolerance that each turns away, by days, which is at 25 and 250, and at the greatest that both have.

@@ -2,6 +2,7 @@
 pub mod Agings
 pub mod Calls
 pub mod Asked
+pub mod Kept
 pub mod Moved
 pub mod Tenfold
 pub mod Claim

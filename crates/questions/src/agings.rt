@@ -1,5 +1,8 @@
 // Lists of agings: the calls of a lent list, made one after the other on one lent buffer, each by days with its own of the lent tables.
 use aging::Aged;
+use approach::Approached;
+use approach::Point;
+use approach::Radius;
 use crossing::Crossed;
 use crossing::Edges;
 use crossing::Window;
@@ -12,7 +15,8 @@ ghost use Rattle.record.specs.Checks.{IsAccepted};
 ghost use Rattle.aging.specs.Aging.{left-by, answered};
 ghost use Rattle.aging.specs.Answers.{counted};
 ghost use Rattle.crossing.specs.Answers.{crossed, boxOf};
-ghost use Rattle.questions.specs.Agings.{run, one-if-refused, refused-calls, run-answer, after-answer, left-after, call-of, calls-of};
+ghost use Rattle.approach.specs.Answers.{approached, pointOf};
+ghost use Rattle.questions.specs.Agings.{run, one-if-refused, refused-calls, run-answer, after-answer, left-after, near-after-answer, near-left-after, call-of, calls-of};
 ghost use Rattle.questions.specs.Answers.{ran};
 ghost use Rattle.questions.specs.Claim.{Claim};
 
@@ -79,6 +83,20 @@ pub fn crosses_after(b: &mut [u8], calls: &[u64], tables: &[u16], w: Window, e: 
         Checked::Accepted => {
             call_each(b, calls, tables);
             crossing::cross_asked(b, w, e)
+        },
+    }
+}
+
+// The same with a radius question in the crossing's place.
+pub fn near_after(b: &mut [u8], calls: &[u64], tables: &[u16], c: Point, r: Radius) -> Approached
+    ensures { λ f. ⌜ (approached f ≡ near-after-answer (now (b .entry)) (calls-of (now (tables .entry)) (now (calls .entry))) (pointOf c) (r .0)) × (now (b .exit) ≡ near-left-after (now (b .entry)) (calls-of (now (tables .entry)) (now (calls .entry))) (pointOf c) (r .0)) × (IsAccepted (now (b .entry)) → mark-field (now (b .entry)) ≡ never → Claim (now (b .entry)) (calls-of (now (tables .entry)) (now (calls .entry)))) ⌝ }
+{
+    let v = approach::near_says(b, c, r);
+    match v {
+        Checked::Refused(k) => Approached::Refused(k),
+        Checked::Accepted => {
+            call_each(b, calls, tables);
+            approach::near_asked(b, c, r)
         },
     }
 }

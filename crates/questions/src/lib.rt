@@ -4,3 +4,4 @@ mod agings;
 pub use agings::Ran;
 pub use agings::call_all;
 pub use agings::crosses_after;
+pub use agings::near_after;

@@ -1,4 +1,4 @@
-// The readers of a record: fix after fix, and all fixes at once.
+// The record layer: the readers, fix after fix and all fixes at once.
 mod all;
 mod reading;
 

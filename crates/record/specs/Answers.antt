@@ -21,6 +21,11 @@ SameAnswer agrees (turns-away k) (turns-away n) = k ≡ n
 SameAnswer agrees (gives a) (turns-away n) = ⊥
 SameAnswer agrees (turns-away k) (gives g) = ⊥
 
+-- What is found first, if anything is.
+abbrev pub or-else : {A : Type 0} → Option A → Option A → Option A
+or-else (some a) r = some a
+or-else none r = r
+
 -- A lent buffer afterwards: as it was if there is a refusal, "with all lent bytes untouched".
 abbrev pub unless : {A : Type 0} → Option ℕ → (before afterwards : A) → A
 unless none before afterwards = afterwards

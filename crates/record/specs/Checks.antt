@@ -11,9 +11,9 @@ use lib.IntN.{ℤ, pos, negℤ}
 use lib.Signed.{ltZ}
 use Rattle.distance.specs.Fix.{Fix, last-of}
 use Rattle.distance.specs.Distance.{seconds}
-use Rattle.distance.specs.Place.{moment}
+use Rattle.distance.specs.Place.{Point, point-at, moment}
 use Rattle.distance.specs.Silence.{silent, in-silence}
-use Rattle.distance.specs.Box.{Box}
+use Rattle.distance.specs.Box.{Box, box-with}
 use Rattle.format.specs.Kinds.{Kind, kinds, coded}
 use Rattle.format.specs.Format.{never, length-field, kind-field, mark-field, count-field, kind-of, record-length, fixes}
 
@@ -38,6 +38,9 @@ pub record Given : Type 0 where
   pub output : ℕ
   -- the rows of "the table handed to aging by days", or of one that is loaded
   pub table : List Row
+  -- "a point and an unsigned radius"
+  pub point : Point
+  pub radius : ℕ
 
 pub record Asked : Type 0 where
   -- how many bytes are lent
@@ -132,6 +135,7 @@ pub data Check : Type 0 where
   moment-in-silence : Check
   bad-row-count : Check
   bad-rows : Check
+  bad-point : Check
 
 abbrev pub number : Check → ℕ
 number few-bytes = 1
@@ -149,12 +153,13 @@ number bad-moment = 12
 number bad-window = 13
 number bad-box = 14
 number short-output = 15
+number bad-point = 16
 number bad-silence = 20
 number moment-in-silence = 21
 number bad-row-count = 22
 number bad-rows = 23
 
--- ---- the sentences, each as document 01 has it for its kind, 1. Document 02, item 8: "Checks 2, 4, 6, 7, 10, 14, 15 [..] read the record's own limits." Item 5:
+-- ---- the sentences, each as document 01 has it for its kind, 1. Document 02, item 8: "Checks 2, 4, 6, 7, 10, 14, 15 and 16 read the record's own limits." Item 5:
 -- "Checks 2, 4 and 15 take the new kind and length."
 unfoldable pub sentence : Kind → Asked → Check → Bool
 -- 1. "The lent bytes are fewer than 10."
@@ -192,6 +197,8 @@ sentence K a bad-box =
     || (outside (K .limit) (b .x-high) || (outside (K .limit) (b .y-low) || (outside (K .limit) (b .y-high) || (ltZ (b .x-high) (b .x-low) || ltZ (b .y-high) (b .y-low)))))
 -- 15. "The output has fewer than 10 + 8n bytes."
 sentence K a short-output = ltb (a .given .output) (record-length K (a .count))
+-- 16. "the point is outside −16,000 to 16,000 or the radius is above 32,000": the limit of places, and twice that, as the 320,000 of item 8 is
+sentence K a bad-point = outside (K .limit) (a .given .point .x) || (outside (K .limit) (a .given .point .y) || ltb (2 * K .limit) (a .given .radius))
 -- 20. "a silence byte is neither 0 nor 1 or the last fix has 1". Kinds without that byte say 0, and are never turned away by it (`no-silence-refused` of Laws/Silence.antt).
 sentence K a bad-silence = some-other-silence (a .trail-fixes) || of-ends last-silent (a .trail-fixes)
 -- 21. "the moment is strictly inside a silence"
@@ -201,11 +208,12 @@ sentence K a bad-row-count = eqb (length (a .given .table)) 0 || ltb 32 (length 
 -- 23. "days don't rise strictly, tolerances fall, or one is above 32,000"
 sentence K a bad-rows = some-bad-row none (a .given .table)
 
--- ---- THE ORDER. Document 02, item 5: "20, directly after 9 and before 16, [..]; 21, after 12"; item 6: "directly after 9 and 20: 22, [..]; 23, next".
+-- ---- THE ORDER. Document 02, item 2: "16, after 9"; item 5: "20, directly after 9 and before 16, [..]; 21, after 12"; item 6: "directly after 9 and 20: 22, [..]; 23,
+-- next".
 abbrev pub order : List Check
 order =
-    few-bytes ∷ other-kind ∷ bad-count ∷ bad-length ∷ short-record ∷ bad-mark ∷ misplaced ∷ unordered ∷ long-span ∷ bad-silence ∷ bad-row-count ∷ bad-rows ∷ high-tolerance
-    ∷ bad-thousandths ∷ bad-moment ∷ moment-in-silence ∷ bad-window ∷ bad-box ∷ short-output ∷ []
+    few-bytes ∷ other-kind ∷ bad-count ∷ bad-length ∷ short-record ∷ bad-mark ∷ misplaced ∷ unordered ∷ long-span ∷ bad-silence ∷ bad-row-count ∷ bad-rows ∷ bad-point
+    ∷ high-tolerance ∷ bad-thousandths ∷ bad-moment ∷ moment-in-silence ∷ bad-window ∷ bad-box ∷ short-output ∷ []
 
 -- Those of a record's head, and those of its fixes.
 abbrev pub head-checks : List Check
@@ -216,7 +224,7 @@ fix-checks = misplaced ∷ unordered ∷ long-span ∷ bad-silence ∷ []
 
 -- "Aging makes checks 1 to 10, aging by days 1 to 9, the place question 1 to 9, 11, 12, the crossing 1 to 9, 13, 14, the reader and the listing 1 to
 -- 9, the writer 3, 7, 8, 9, 15." Document 02, item 5, puts 20 after 9 in each of them, and 21 after the place question's 12. Item 6 has 22 and 23 "on loading, and
--- on the table handed to aging by days".
+-- on the table handed to aging by days". Item 2's question makes 16 after 9 and 20.
 pub data Operation : Type 0 where
   reading : Operation
   writing : Operation
@@ -225,6 +233,7 @@ pub data Operation : Type 0 where
   placing : Operation
   crossing : Operation
   loading : Operation
+  approaching : Operation
 
 abbrev pub of-record : List ℕ → List ℕ
 of-record l = 1 ∷ 2 ∷ 3 ∷ 4 ∷ 5 ∷ 6 ∷ 7 ∷ 8 ∷ 9 ∷ 20 ∷ l
@@ -237,6 +246,7 @@ makes aging-by-days = of-record (22 ∷ 23 ∷ [])
 makes placing = of-record (11 ∷ 12 ∷ 21 ∷ [])
 makes crossing = of-record (13 ∷ 14 ∷ [])
 makes loading = 22 ∷ 23 ∷ []
+makes approaching = of-record (16 ∷ [])
 
 abbrev pub member : ℕ → List ℕ → Bool
 member n [] = false
@@ -280,7 +290,18 @@ asked-of b g = record {
 
 -- A reader takes nothing besides the bytes.
 abbrev pub nothing : Given
-nothing = record { tolerance = 0; second = 0; thousandths = 0; start = 0; end = 0; box = record { x-low = pos 0; x-high = pos 0; y-low = pos 0; y-high = pos 0 }; output = 0; table = [] }
+nothing = record {
+  tolerance = 0;
+  second = 0;
+  thousandths = 0;
+  start = 0;
+  end = 0;
+  box = box-with (pos 0) (pos 0) (pos 0) (pos 0);
+  output = 0;
+  table = [];
+  point = point-at (pos 0) (pos 0);
+  radius = 0;
+}
 
 -- What loads a table, or ages by one, takes its rows.
 abbrev pub with-table : List Row → Given
@@ -293,6 +314,8 @@ with-table rows = record {
   box = nothing .box;
   output = nothing .output;
   table = rows;
+  point = nothing .point;
+  radius = nothing .radius;
 }
 
 -- The refusal of an operation over lent bytes: by the limits of their own kind.

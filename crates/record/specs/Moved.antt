@@ -1,6 +1,7 @@
 -- A RECORD WITH ITS CLOCK MOVED. Document 02, item 4: "a trail [..] moved by the same seconds, all still in 32 bits".
--- With its question moved alike, a moved record gets the answer that it got: `cross-answer-moved` of the crossing's Laws/Moved.antt, `place-answer-moved` of the
--- moment's, `aged-moved` of the aging's, and after any list of agings `after-answer-moved` of the questions'.
+-- With its question moved alike, a moved record gets the answer that it got: `cross-answer-moved` of the crossing's Laws/Moved.antt, `near-answer-moved` of
+-- the approach's, `place-answer-moved` of the moment's, `aged-moved` of the aging's, and after any list of agings `after-answer-moved` and `near-after-moved` of the
+-- questions'.
 use mathlib.Core.Path.{_≡_}
 use mathlib.Core.List.{List}
 use mathlib.Core.Option.{none}

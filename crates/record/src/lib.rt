@@ -1,4 +1,4 @@
-// The checks that every call makes of a record.
+// The record layer: the checks that every call makes of a record.
 mod checking;
 
 pub use checking::check;

@@ -35,6 +35,8 @@ asked-to-write l output = record {
     box = nothing .box;
     output = output;
     table = nothing .table;
+    point = nothing .point;
+    radius = nothing .radius;
   };
 }
 

@@ -1,5 +1,5 @@
-//! Places and crossings per second. They stand alone: the tests' plain versions are written to be seen right, in
-//! numbers of 128 bits and with every meeting tried, so beside them the proved ones would only look quick.
+//! Places, crossings and approaches per second. They stand alone: the tests' plain versions are written to be seen
+//! right, in numbers of 128 bits and with every meeting tried, so beside them the proved ones would only look quick.
 //!
 //! Each question checks the whole record first, as document 01 asks, so a long trail costs more wherever the answer is.
 
@@ -8,6 +8,7 @@ use std::hint::black_box;
 use trails::in_threes;
 use trails_tests::cases::Random;
 use trails_tests::interface;
+use trails_tests::plain::approach::Circle;
 use trails_tests::plain::crossing::{Area, Question, Window};
 use trails_tests::plain::kinds::CENTIMETRES;
 use trails_tests::plain::{Fix, Trail, MOST_FIXES};
@@ -56,11 +57,21 @@ fn crossing(fixes: &[Fix], random: &mut Random) -> Question {
     }
 }
 
+/// Whether the cart came within one to five metres of a point near where it was at some time.
+fn approach(fixes: &[Fix], random: &mut Random) -> Circle {
+    let near = random.pick(fixes);
+    let mut off = |near: i32| near + random.between(-1_000, 1_000) as i32;
+    let (x, y) = (off(near.x), off(near.y));
+    let radius = random.between(100, 500) as u32;
+    Circle { x, y, radius }
+}
+
 struct Inquiry {
     fixes: usize,
     record: Vec<u8>,
     moments: Vec<Moment>,
     crossings: Vec<Question>,
+    approaches: Vec<Circle>,
 }
 
 impl Inquiry {
@@ -71,48 +82,51 @@ impl Inquiry {
             fixes: n,
             moments: (0..DRAWN).map(|_| moment(&fixes, &mut random)).collect(),
             crossings: (0..DRAWN).map(|_| crossing(&fixes, &mut random)).collect(),
+            approaches: (0..DRAWN).map(|_| approach(&fixes, &mut random)).collect(),
             record: Trail::never_thinned(CENTIMETRES, fixes).bytes(),
         }
     }
 
-    fn places(&self) -> Run<'_> {
-        let ask = |record: &mut &[u8]| {
-            for moment in &self.moments {
-                let Moment {
-                    second,
-                    thousandths,
-                } = *black_box(moment);
-                black_box(interface::place(record, second, thousandths));
+    /// Asks all questions of a sort, one after the other.
+    fn asks<'a, Q, A: 'a>(&'a self, all: &'a [Q], ask: fn(&[u8], &Q) -> A) -> Run<'a> {
+        let ask_all = move |record: &mut &[u8]| {
+            for question in all {
+                black_box(ask(record, black_box(question)));
             }
         };
-        Box::new(move || repeated(DRAWN, &mut self.record.as_slice(), |_| (), ask))
+        Box::new(move || repeated(DRAWN, &mut self.record.as_slice(), |_| (), ask_all))
     }
 
-    fn crosses(&self) -> Run<'_> {
-        let ask = |record: &mut &[u8]| {
-            for question in &self.crossings {
-                black_box(interface::crosses(record, black_box(question)));
-            }
-        };
-        Box::new(move || repeated(DRAWN, &mut self.record.as_slice(), |_| (), ask))
-    }
-
-    /// How many of the crossings are answered yes, in hundredths: a yes ends the search, so they cost differently.
-    fn yes(&self) -> usize {
-        let answers = self.crossings.iter();
-        let yes =
-            answers.filter(|question| interface::crosses(&self.record, question).crosses == 1);
-        100 * yes.count() / DRAWN
+    /// How many of these are answered yes: a yes ends the search, so they cost differently.
+    fn yes<Q>(&self, all: &[Q], is_yes: impl Fn(&[u8], &Q) -> bool) -> String {
+        let yes = all.iter().filter(|question| is_yes(&self.record, question));
+        format!("{} %", 100 * yes.count() / DRAWN)
     }
 
     fn rows(&self) {
-        let times = by_turns(&mut [self.places(), self.crosses()]);
+        let place =
+            |record: &[u8], at: &Moment| interface::place(record, at.second, at.thousandths);
+        let times = by_turns(&mut [
+            self.asks(&self.moments, place),
+            self.asks(&self.crossings, interface::crosses),
+            self.asks(&self.approaches, interface::near),
+        ]);
+        let shares = [
+            None,
+            Some(self.yes(&self.crossings, |r, asked| {
+                interface::crosses(r, asked).crosses == 1
+            })),
+            Some(self.yes(&self.approaches, |r, asked| {
+                interface::near(r, asked).approaches == 1
+            })),
+        ];
         let fixes = in_threes(self.fixes as u64);
-        let cells = |time: f64| vec![in_threes((1.0 / time) as u64), microseconds(time)];
-        row(&format!("places, {fixes} fixes"), &cells(times[0]));
-        let mut crossings = cells(times[1]);
-        crossings.push(format!("{} %", self.yes()));
-        row(&format!("crossings, {fixes} fixes"), &crossings);
+        let names = ["places", "crossings", "approaches"];
+        for ((name, time), share) in names.into_iter().zip(times).zip(shares) {
+            let mut cells = vec![in_threes((1.0 / time) as u64), microseconds(time)];
+            cells.extend(share);
+            row(&format!("{name}, {fixes} fixes"), &cells);
+        }
     }
 }
 

@@ -2,7 +2,7 @@
 
 use std::collections::BTreeMap;
 
-use crate::plain::kinds::{Kind, KINDS, MILLIMETRES};
+use crate::plain::kinds::{Kind, CENTIMETRES, KINDS, MILLIMETRES, SILENCES};
 use crate::plain::{encode, Fix, Head, Trail, LONGEST, MOST_FIXES, NEVER};
 
 /// What a run tries: a fixed seed and count, unless TRAILS_SEED and TRAILS_CASES say otherwise.
@@ -347,6 +347,58 @@ fn another(kind: Kind, random: &mut Random) -> Kind {
 /// A buffer that begins with the record of a trail, and goes on.
 pub fn buffer(trail: &Trail) -> Vec<u8> {
     Draft::new(trail.clone(), vec![0xAB; 5]).bytes()
+}
+
+/// The same of a trail of these fixes, never thinned.
+pub fn buffer_of(kind: Kind, fixes: impl IntoIterator<Item = Fix>) -> Vec<u8> {
+    buffer(&Trail::never_thinned(kind, fixes.into_iter().collect()))
+}
+
+/// The fixes of a trail by hand, with a silence after those at these positions.
+pub fn by_hand(fixes: &[(u32, i32, i32)], silent: &[usize]) -> Vec<Fix> {
+    let mut fixes: Vec<Fix> = fixes.iter().copied().map(Fix::from).collect();
+    silent.iter().for_each(|&k| fixes[k].silence = 1);
+    fixes
+}
+
+/// Where a trail of so many seconds begins that is asked at several times: at 0, with 65,536 in its midst and at its
+/// start, and so that it ends with the last second.
+pub fn firsts(seconds: u32) -> [u32; 4] {
+    [0, 65_536 - seconds / 2, 65_536, u32::MAX - seconds]
+}
+
+/// The longest span at the end of the clock, from one corner of the hall to the other; and the same in millimetres.
+pub const CORNERS: [(u32, i32, i32); 2] = [
+    (4_294_901_760, -16_000, 16_000),
+    (4_294_967_295, 16_000, -16_000),
+];
+pub const FAR_CORNERS: [(u32, i32, i32); 2] = [
+    (4_294_901_760, -160_000, 160_000),
+    (4_294_967_295, 160_000, -160_000),
+];
+
+/// Records of three fixes at seconds 0, 1 and 3 and no further than 2 from the middle, with silences and without: one for
+/// so many cases of the run.
+pub fn small_records(one_for: usize) -> impl Iterator<Item = Vec<u8>> {
+    let settings = Settings::get();
+    let mut random = Random::new(settings.seed);
+    (0..settings.cases / one_for).map(move |_| {
+        let mut coordinate = || random.between(-2, 2) as i32;
+        let mut small = |t| (t, coordinate(), coordinate());
+        let small = [small(0), small(1), small(3)].map(Fix::from);
+        let silent = [0, 1].map(|_| random.between(0, 1) as u8);
+        with_silences(small, silent)
+    })
+}
+
+/// The record of three fixes with these bytes after the first two; if both are 0, in centimetres.
+fn with_silences(mut fixes: [Fix; 3], silent: [u8; 2]) -> Vec<u8> {
+    (fixes[0].silence, fixes[1].silence) = (silent[0], silent[1]);
+    let kind = match silent {
+        [0, 0] => CENTIMETRES,
+        _ => SILENCES,
+    };
+    buffer_of(kind, fixes)
 }
 
 /// Lent bytes, and what they must be refused for if that is known beforehand: 0 is accepted.

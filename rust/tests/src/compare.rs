@@ -1,10 +1,11 @@
 //! One operation on one lent buffer, by the proved functions and by the plain version: what each answers, and what is
 //! lent afterwards. `draw` draws such cases, `twin` moves one in time, `recast` has one in another kind, `minimise`
-//! makes one smaller, and `met` counts what was met.
+//! makes one smaller, and `met` counts what was met, with `near` for approaches.
 
 pub mod draw;
 pub mod met;
 pub mod minimise;
+mod near;
 pub mod recast;
 pub mod twin;
 
@@ -12,15 +13,16 @@ use crate::cases::{kind_of, Random, Settings};
 use crate::columns::Columns;
 use crate::expected;
 use crate::interface::LONGEST_TEXT;
-use crate::interface::{self, Answer, Applied, Crossing, Head, Loaded, Place, Run, Step};
+use crate::interface::{self, Answer, Applied, Head, Loaded, Place, Run, Step};
 use crate::plain;
+use crate::plain::approach::{self, Circle};
 use crate::plain::crossing::{self, Question};
 use crate::plain::kinds::{Kind, CENTIMETRES};
 use crate::plain::lists::{self, Call, List};
-use crate::plain::place::Time;
 use crate::plain::table::Table;
 use crate::questions::Moment;
 use crate::tables::RowColumns;
+use crate::told::{Approached, Crossed};
 
 /// An operation of the interface, with all that it is given besides the buffer.
 #[derive(Clone, Debug, PartialEq, Eq)]
@@ -43,6 +45,8 @@ pub enum Operation {
     Place(Moment),
     Crosses(Question),
     CrossesAfter(List, Question),
+    Near(Circle),
+    NearAfter(List, Circle),
 }
 
 #[derive(Clone, Debug, PartialEq, Eq)]
@@ -73,6 +77,7 @@ pub enum Reply {
     Run(Run),
     Place(Place),
     Crossing(Crossed),
+    Approach(Approached),
 }
 
 impl Reply {
@@ -83,60 +88,12 @@ impl Reply {
             Reply::Steps(steps) => steps.first().map(|step| step.refusal),
             Reply::Answer(answer) => Some(answer.refusal),
             Reply::Place(place) => Some(place.refusal),
-            Reply::Crossing(Crossed::Refused(number)) => Some(*number),
-            Reply::Crossing(_) => Some(0),
+            Reply::Crossing(told) => Some(told.refusal()),
+            Reply::Approach(told) => Some(told.refusal()),
             Reply::Run(run) => Some(run.refusal),
             Reply::Loaded(loaded) => Some(loaded.refusal),
             Reply::Applied(applied) => Some(applied.refusal),
             Reply::Length(_) => None,
-        }
-    }
-}
-
-/// An answer to the crossing question. Two times are equal by value, since the plain version has a form of its own.
-#[derive(Clone, Copy, Debug)]
-pub enum Crossed {
-    Refused(u32),
-    No,
-    Yes(Time),
-    /// what no answer may be: a denominator that the record's kind can't have, or a no or a refusal that carries
-    /// something
-    Never(Crossing),
-}
-
-impl Crossed {
-    /// What is answered about a record of this kind.
-    pub fn of(kind: Kind, answer: Crossing) -> Crossed {
-        let denominators = 1..=u64::from(kind.denominator);
-        match interface::numbers(answer) {
-            [0, 0, 0, 0] => Crossed::No,
-            [_, 0, 0, 0] => Crossed::Refused(answer.refusal),
-            [0, 1, p, q] if denominators.contains(&q) => Crossed::Yes(Time {
-                p: p.into(),
-                q: q.into(),
-            }),
-            _ => Crossed::Never(answer),
-        }
-    }
-}
-
-impl PartialEq for Crossed {
-    fn eq(&self, other: &Crossed) -> bool {
-        match (self, other) {
-            (Crossed::Refused(one), Crossed::Refused(other)) => one == other,
-            (Crossed::No, Crossed::No) => true,
-            (Crossed::Yes(one), Crossed::Yes(other)) => one.order(other).is_eq(),
-            _ => false,
-        }
-    }
-}
-
-impl From<Result<Option<Time>, u8>> for Crossed {
-    fn from(result: Result<Option<Time>, u8>) -> Crossed {
-        match result {
-            Err(number) => Crossed::Refused(number.into()),
-            Ok(None) => Crossed::No,
-            Ok(Some(time)) => Crossed::Yes(time),
         }
     }
 }
@@ -162,7 +119,9 @@ fn blank() -> Box<[u8; LONGEST_TEXT]> {
 pub fn proved(case: &Case) -> Outcome {
     let mut after = case.clone();
     let mut text = Vec::new();
-    let crossed = |answer| Reply::Crossing(Crossed::of(case.kind(CENTIMETRES), answer));
+    let kind = case.kind(CENTIMETRES);
+    let crossed = |answer| Reply::Crossing(Crossed::of(kind, answer));
+    let approached = |answer| Reply::Approach(Approached::of(kind, answer));
     let buffer = &mut after.buffer;
     let reply = match &mut after.operation {
         Operation::Check => Reply::Head(interface::check(buffer)),
@@ -183,13 +142,16 @@ pub fn proved(case: &Case) -> Outcome {
         Operation::Days(days, by) => Reply::Answer(interface::age_by_days(buffer, *days, by)),
         Operation::Apply(days, by) => Reply::Applied(interface::days_apply(buffer, *days, by)),
         Operation::Run(list) => Reply::Run(interface::run(buffer, list)),
-        Operation::Place(Moment {
-            second,
-            thousandths,
-        }) => Reply::Place(interface::place(buffer, *second, *thousandths)),
+        Operation::Place(asked) => {
+            Reply::Place(interface::place(buffer, asked.second, asked.thousandths))
+        }
         Operation::Crosses(question) => crossed(interface::crosses(buffer, question)),
         Operation::CrossesAfter(list, question) => {
             crossed(interface::crosses_after(buffer, list, question))
+        }
+        Operation::Near(circle) => approached(interface::near(buffer, circle)),
+        Operation::NearAfter(list, circle) => {
+            approached(interface::near_after(buffer, list, circle))
         }
     };
     Outcome { reply, after, text }
@@ -227,6 +189,10 @@ pub fn plain(case: &Case) -> Outcome {
         Operation::Crosses(question) => Reply::Crossing(crossing::crosses(buffer, question).into()),
         Operation::CrossesAfter(list, question) => {
             Reply::Crossing(lists::crosses_after(buffer, &list.all(), question).into())
+        }
+        Operation::Near(circle) => Reply::Approach(approach::near(buffer, circle).into()),
+        Operation::NearAfter(list, circle) => {
+            Reply::Approach(lists::near_after(buffer, &list.all(), circle).into())
         }
     };
     Outcome { reply, after, text }

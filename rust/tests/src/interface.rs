@@ -3,10 +3,13 @@
 use trails::interface as offered;
 
 pub use offered::{age, built_in, by_table, check, list, place, read};
-pub use offered::{Answer, Applied, Crossing, Head, Loaded, Place, Row, Run, Step, Table};
+pub use offered::{
+    Answer, Applied, Approach, Crossing, Head, Loaded, Place, Row, Run, Step, Table,
+};
 pub use offered::{LONGEST_TEXT, ROWS, TABLE_NUMBERS};
 
 use crate::columns::Columns;
+use crate::plain::approach::Circle;
 use crate::plain::crossing::Question;
 use crate::plain::kinds::{Kind, CENTIMETRES, MILLIMETRES};
 use crate::plain::lists::List;
@@ -89,4 +92,31 @@ pub fn crosses(record: &[u8], question: &Question) -> Crossing {
 pub fn crosses_after(record: &mut [u8], list: &List, question: &Question) -> Crossing {
     let List { calls, tables } = list;
     offered::crosses_after(record, calls, tables, asked(question))
+}
+
+/// A point and a radius as they are lent to the interface.
+fn about(&Circle { x, y, radius }: &Circle) -> offered::Circle {
+    offered::Circle { x, y, radius }
+}
+
+/// All that an answer to the radius question says: refusal, yes, leg, numerator and denominator.
+pub fn numbers_near(answer: Approach) -> [u64; 5] {
+    let Approach {
+        refusal,
+        approaches,
+        leg,
+        numerator,
+        denominator,
+    } = answer;
+    let [refusal, approaches, leg] = [refusal, approaches, leg].map(u64::from);
+    [refusal, approaches, leg, numerator, denominator]
+}
+
+pub fn near(record: &[u8], circle: &Circle) -> Approach {
+    offered::near(record, about(circle))
+}
+
+pub fn near_after(record: &mut [u8], list: &List, circle: &Circle) -> Approach {
+    let List { calls, tables } = list;
+    offered::near_after(record, calls, tables, about(circle))
 }

@@ -16,3 +16,4 @@ pub mod programs;
 pub mod questions;
 pub mod shapes;
 pub mod tables;
+pub mod told;

@@ -2,12 +2,14 @@
 
 use crate::cases::{buffer, fixes, kind_of, Cases, Random, Settings, Tally};
 use crate::expected;
-use crate::interface::{self, Crossing};
+use crate::interface::{self, Approach, Crossing};
+use crate::plain::approach::{self, legs, Circle};
 use crate::plain::crossing::{self, Area, Question, Window};
 use crate::plain::kinds::{Kind, CENTIMETRES, KINDS};
 use crate::plain::place::{is_silent, Time};
-use crate::plain::{self, Fix, Trail};
+use crate::plain::{self, Fix, Trail, MOST_FIXES};
 use crate::shapes::{trail, SHAPES};
+use crate::told::{Approached, Crossed, Told};
 
 fn ends(fixes: &[Fix]) -> (u32, u32) {
     (fixes[0].t, fixes[fixes.len() - 1].t)
@@ -109,6 +111,40 @@ pub fn asked_of_every_shape<Q: Asked>(mut ask: impl FnMut(&Trail, &[u8], Q, &str
     }
 }
 
+/// Asks trails of this kind and of every shape, as long as a record can be, so many good questions each.
+pub fn asked_of_the_longest<Q: Asked>(
+    kind: Kind,
+    many: usize,
+    mut ask: impl FnMut(&Trail, &[u8], Q, &str),
+) {
+    let mut random = Random::new(Settings::get().seed);
+    for shape in SHAPES {
+        let trail = trail(kind, shape, MOST_FIXES, &mut random);
+        let bytes = buffer(&trail);
+        let name = format!("{kind}, {shape:?}, the longest");
+        for _ in 0..many {
+            ask(&trail, &bytes, Q::good(&trail, &mut random), &name);
+        }
+    }
+}
+
+/// Asks about a record, whose bytes must then be what they were.
+fn asked_of<T>(record: &[u8], name: &str, ask: impl FnOnce(&[u8]) -> T) -> T {
+    let before = record.to_vec();
+    let answer = ask(record);
+    assert!(record == before, "{name}: other bytes");
+    answer
+}
+
+/// Holds an answer to what the plain version found: a refusal and a no carry nothing, and a yes tells the same, its time
+/// in any form with a denominator that the kind lets it have.
+pub fn agrees<Y>(answer: &Told<Y>, expected: Result<Option<Y>, u8>, name: &str)
+where
+    Y: PartialEq + std::fmt::Debug,
+{
+    assert_eq!(*answer, expected.into(), "{name}");
+}
+
 // ---- the place question
 
 /// A second and its thousandths.
@@ -201,11 +237,15 @@ impl Asked for Moment {
 
 /// Asks for the place, and holds the answer to the plain version's, and the bytes to what they were.
 pub fn place(record: &[u8], moment: Moment, name: &str) -> interface::Place {
-    let before = record.to_vec();
-    let answer = interface::place(record, moment.second, moment.thousandths);
-    let expected = expected::place(record, moment.second, moment.thousandths);
-    assert_eq!(answer, expected, "{name}, {moment:?}");
-    assert!(record == before, "{name}, {moment:?}: other bytes");
+    let Moment {
+        second,
+        thousandths,
+    } = moment;
+    let name = format!("{name}, {moment:?}");
+    let ask = |record: &[u8]| interface::place(record, second, thousandths);
+    let answer = asked_of(record, &name, ask);
+    let expected = expected::place(record, second, thousandths);
+    assert_eq!(answer, expected, "{name}");
     answer
 }
 
@@ -355,41 +395,130 @@ impl Asked for Question {
     }
 }
 
-/// Holds an answer about a record of this kind to what the plain version found: a refusal and a no carry nothing, and a
-/// yes has the same time, in any form with a denominator that the kind lets it have.
-pub fn agrees(kind: Kind, answer: Crossing, expected: Result<Option<Time>, u8>, name: &str) {
-    let facts = (answer.refusal, answer.crosses);
-    match expected {
-        Err(number) => assert_eq!(facts, (number.into(), 0), "{name}"),
-        Ok(time) => assert_eq!(facts, (0, time.is_some().into()), "{name}: {time:?}"),
-    }
-    match expected {
-        Ok(Some(time)) => {
-            let told = told(kind, &answer, name);
-            assert!(told.order(&time).is_eq(), "{name}: {told:?}, not {time:?}");
-        }
-        _ => assert_eq!((answer.numerator, answer.denominator), (0, 0), "{name}"),
-    }
-}
-
 /// The time of a yes, in seconds after the first fix.
 pub fn told(kind: Kind, answer: &Crossing, name: &str) -> Time {
-    assert_eq!((answer.refusal, answer.crosses), (0, 1), "{name}");
-    let free = 1..=kind.denominator;
-    assert!(free.contains(&answer.denominator), "{name}: {answer:?}");
-    Time {
-        p: answer.numerator.into(),
-        q: answer.denominator.into(),
-    }
+    let yes = Crossed::of(kind, *answer).yes();
+    yes.unwrap_or_else(|| panic!("{name}: {answer:?}"))
 }
 
 /// Asks for the crossing, and holds the answer to the plain version's, and the bytes to what they were.
 pub fn crosses(record: &[u8], question: &Question, name: &str) -> Crossing {
-    let before = record.to_vec();
     let name = format!("{name}, {question:?}");
-    let answer = interface::crosses(record, question);
+    let answer = asked_of(record, &name, |record| interface::crosses(record, question));
     let expected = crossing::crosses(record, question);
-    agrees(kind_of(record, CENTIMETRES), answer, expected, &name);
-    assert!(record == before, "{name}: other bytes");
+    let told = Crossed::of(kind_of(record, CENTIMETRES), answer);
+    agrees(&told, expected, &name);
+    answer
+}
+
+// ---- the radius question
+
+/// A leg of the trail, half of the time the first: only there a yes can be told by the leg's start, which else is the
+/// end of the leg before.
+fn some_leg(fixes: &[Fix], random: &mut Random) -> (Fix, Fix) {
+    let all: Vec<(Fix, Fix)> = legs(fixes).collect();
+    let any = random.pick(&all);
+    random.pick(&[all[0], any])
+}
+
+/// So far from a place along both axes that it is a whole number from it.
+fn whole_way_off(random: &mut Random) -> (i32, i32) {
+    let (a, b) = random.pick(&[(3, 4), (4, 3), (5, 12), (15, 8), (0, 1), (1, 0)]);
+    let any = random.between(1, 999);
+    let times = random.pick(&[1, 1, 10, any]);
+    let mut side = |n: i64| (n * random.pick(&[-times, times])) as i32;
+    (side(a), side(b))
+}
+
+impl Circle {
+    /// A point at or about the trail's places: on a leg, as far from both its ends, a whole number from one of them, a
+    /// little off, at the walls, or anywhere.
+    fn about(trail: &Trail, random: &mut Random) -> (i32, i32) {
+        let Trail { kind, fixes, .. } = trail;
+        let (i, j) = some_leg(fixes, random);
+        let end = random.pick(&[i, j]);
+        let (dx, dy) = (j.x - i.x, j.y - i.y);
+        let (across, along) = whole_way_off(random);
+        let mut little = || random.between(-3, 3) as i32;
+        let (off_x, off_y, side) = (little(), little(), little());
+        match random.between(0, 9) {
+            0 => (end.x, end.y),
+            1 | 2 => (i.x + dx / 2, i.y + dy / 2),
+            3 => (i.x + dx / 2 - side * dy, i.y + dy / 2 + side * dx),
+            4 | 5 => (end.x + across, end.y + along),
+            6 => (end.x + off_x, end.y + off_y),
+            7 => (edge(*kind, &[-kind.limit, kind.limit], random), end.y),
+            8 => (end.x, edge(*kind, &[-kind.limit, kind.limit], random)),
+            _ => (
+                edge(*kind, &[i.x, j.x], random),
+                edge(*kind, &[i.y, j.y], random),
+            ),
+        }
+    }
+
+    /// The least whole radius within which the trail comes.
+    fn reached_by(&self, fixes: &[Fix]) -> u32 {
+        let reaches = legs(fixes).map(|leg| self.reach(&self.closest(leg).place));
+        reaches.min().expect("a trail has a leg")
+    }
+}
+
+impl Asked for Circle {
+    /// With a radius that just reaches the trail, or one less or more; that reaches a leg; 0; the greatest; or any.
+    fn good(trail: &Trail, random: &mut Random) -> Circle {
+        let Trail { kind, fixes, .. } = trail;
+        let (x, y) = Circle::about(trail, random);
+        let inside = |c: i32| c.clamp(-kind.limit, kind.limit);
+        let point = Circle {
+            x: inside(x),
+            y: inside(y),
+            radius: 0,
+        };
+        let least = point.reached_by(fixes);
+        let leg = point.reach(&point.closest(some_leg(fixes, random)).place);
+        let (any, low) = (random.between(0, kind.radius.into()), random.between(0, 60));
+        let radius = random.pick(&[
+            least,
+            least,
+            least.saturating_sub(1),
+            least.saturating_sub(1),
+            least + 1,
+            leg,
+            leg,
+            0,
+            kind.radius,
+            low as u32,
+            any as u32,
+        ]);
+        Circle {
+            radius: radius.min(kind.radius),
+            ..point
+        }
+    }
+
+    /// Makes the sentence of check 16 true.
+    fn spoil(&mut self, fault: u8, trail: &Trail, random: &mut Random) {
+        assert_eq!(fault, 16, "no other fault of a circle has a number");
+        let Kind { limit, radius, .. } = trail.kind;
+        // multiples of 65,536 would be good if they were cut to 16 bits
+        let below = random.pick(&[-limit - 1, -limit - 1, -(16 << 16), -3 * limit, i32::MIN]);
+        let above = random.pick(&[limit + 1, limit + 1, 16 << 16, 3 * limit, i32::MAX]);
+        match random.between(0, 5) {
+            0 => self.x = below,
+            1 => self.x = above,
+            2 => self.y = below,
+            3 => self.y = above,
+            _ => self.radius = random.pick(&[radius + 1, radius + 1, 16 << 16, u32::MAX]),
+        }
+    }
+}
+
+/// Asks whether the cart came near, and holds the answer to the plain version's, and the bytes to what they were.
+pub fn near(record: &[u8], circle: &Circle, name: &str) -> Approach {
+    let name = format!("{name}, {circle:?}");
+    let answer = asked_of(record, &name, |record| interface::near(record, circle));
+    let expected = approach::near(record, circle);
+    let told = Approached::of(kind_of(record, CENTIMETRES), answer);
+    agrees(&told, expected, &name);
     answer
 }

@@ -4,17 +4,20 @@
 
 use trails_tests::cases::Settings;
 use trails_tests::columns::Columns;
-use trails_tests::compare::{plain, proved, run, Case, Crossed, Outcome, Reply};
+use trails_tests::compare::{plain, proved, run, Case, Outcome, Reply};
 use trails_tests::compare::{Operation, Sides};
 use trails_tests::interface::Crossing;
+use trails_tests::plain::approach::Circle;
 use trails_tests::plain::crossing::{Area, Question, Window};
 use trails_tests::plain::kinds::{Kind, CENTIMETRES, MILLIMETRES, SILENCES};
 use trails_tests::plain::lists::List;
+use trails_tests::plain::place::Time;
 use trails_tests::plain::table::{Row, Table};
 use trails_tests::plain::thinning::thin;
 use trails_tests::plain::{read, Fix, Trail, NEVER};
 use trails_tests::questions::Moment;
 use trails_tests::tables::RowColumns;
+use trails_tests::told::{Crossed, Told};
 
 const SETTINGS: Settings = Settings {
     seed: 8,
@@ -415,6 +418,66 @@ fn a_crossing_that_is_missed_is_shown_by_one_leg() {
     assert!((0..=1).contains(&wide), "{fixes:?}, {area:?}");
 }
 
+/// What was asked of an approach.
+fn circle_of(operation: Operation) -> Circle {
+    match operation {
+        Operation::Near(circle) | Operation::NearAfter(_, circle) => circle,
+        other => panic!("{other:?}"),
+    }
+}
+
+#[test]
+fn an_approach_that_is_missed_is_shown_by_one_leg() {
+    let case = shown(|_, outcome| {
+        if let Reply::Approach(Told::Yes(first)) = &outcome.reply {
+            if first.time.p % first.time.q != 0 {
+                outcome.reply = Reply::Approach(Told::No);
+            }
+        }
+    });
+    let fixes = read(&case.buffer).expect("it is accepted").fixes;
+    let times: Vec<u32> = fixes.iter().map(|fix| fix.t).collect();
+    assert_eq!(times, [0, 1]);
+    // a way of 2 along one axis with the point in its middle, or of 1 along both with the point at a corner
+    let off = fixes.iter().map(|fix| fix.x.abs() + fix.y.abs());
+    assert_eq!(off.sum::<i32>(), 2, "{fixes:?}");
+    let circle = circle_of(case.operation);
+    let near = circle.x.abs() + circle.y.abs();
+    assert!(near <= 1 && circle.radius <= 1, "{fixes:?}, {circle:?}");
+}
+
+#[test]
+fn another_leg_that_is_told_is_shown_by_two() {
+    let case = shown(|_, outcome| {
+        if let Reply::Approach(Told::Yes(first)) = &mut outcome.reply {
+            first.leg += usize::from(first.leg > 0);
+        }
+    });
+    let fixes = read(&case.buffer).expect("it is accepted").fixes;
+    let times: Vec<u32> = fixes.iter().map(|fix| fix.t).collect();
+    assert_eq!(times, [0, 1, 2]);
+    // the first two are at one place, and the last is one off, at the point
+    assert_eq!((fixes[0].x, fixes[0].y), (fixes[1].x, fixes[1].y));
+    let off = (fixes[2].x - fixes[1].x).abs() + (fixes[2].y - fixes[1].y).abs();
+    assert_eq!((off, circle_of(case.operation).radius), (1, 0), "{fixes:?}");
+}
+
+#[test]
+fn a_radius_that_is_taken_is_shown_by_the_least() {
+    let case = shown(|_, outcome| {
+        if outcome.reply == Reply::Approach(Told::Refused(16)) {
+            outcome.reply = Reply::Approach(Told::No);
+        }
+    });
+    assert_eq!(case.buffer, record(0, &[(0, 0, 0)]));
+    let Circle { x, y, radius } = circle_of(case.operation);
+    let beyond = [(16_001, 0, 0), (0, 16_001, 0), (0, 0, 32_001)];
+    assert!(
+        beyond.contains(&(x.abs(), y.abs(), radius)),
+        "{x} {y} {radius}"
+    );
+}
+
 #[test]
 fn forms_of_one_fraction_are_equal_and_denominators_have_limits() {
     let question = Question {
@@ -450,14 +513,19 @@ fn forms_of_one_fraction_are_equal_and_denominators_have_limits() {
 
 // ---- twins
 
+/// A time in another form, if the trail is late.
+fn double_if_late(case: &Case, time: &mut Time) {
+    if read(&case.buffer).is_ok_and(|trail| trail.fixes[0].t > 1_000_000) {
+        (time.p, time.q) = (2 * time.p, 2 * time.q);
+    }
+}
+
 /// The two sides are equal by value, so that only a twin shows it.
 #[test]
 fn a_fraction_of_another_form_at_late_times_is_shown_by_a_twin() {
     let doubled = faulty(proved, |case, outcome| {
-        let late = read(&case.buffer).is_ok_and(|trail| trail.fixes[0].t > 1_000_000);
-        if let (true, Reply::Crossing(Crossed::Yes(time))) = (late, &mut outcome.reply) {
-            time.p *= 2;
-            time.q *= 2;
+        if let Reply::Crossing(Crossed::Yes(time)) = &mut outcome.reply {
+            double_if_late(case, time);
         }
     });
     let case = shown_by(Sides {
@@ -470,6 +538,22 @@ fn a_fraction_of_another_form_at_late_times_is_shown_by_a_twin() {
         panic!("{case:?}");
     };
     assert_eq!(question.window, Window { start: 0, end: 0 });
+}
+
+#[test]
+fn so_is_that_of_an_approach() {
+    let doubled = faulty(proved, |case, outcome| {
+        if let Reply::Approach(Told::Yes(first)) = &mut outcome.reply {
+            double_if_late(case, &mut first.time);
+        }
+    });
+    let case = shown_by(Sides {
+        proved: &doubled,
+        plain: &plain,
+    });
+    assert_eq!(case.buffer, record(0, &[(0, 0, 0)]));
+    let circle = circle_of(case.operation);
+    assert_eq!((circle.x, circle.y, circle.radius), (0, 0, 0));
 }
 
 /// A side that takes the asked second's low 16 bits for it.

@@ -1,14 +1,15 @@
 //! The crossing question: yes with the earliest time, no with nothing, trails moved in time, and each refusal.
 #![forbid(unsafe_code)]
 
-use trails_tests::cases::{buffer, Random, Settings, Tally};
+use trails_tests::cases::{buffer_of, by_hand, firsts, small_records, Tally, CORNERS, FAR_CORNERS};
 use trails_tests::interface::{numbers, Crossing};
 use trails_tests::plain::crossing::{Area, Question, Window};
-use trails_tests::plain::kinds::{Kind, CENTIMETRES, KINDS, MILLIMETRES, SILENCES};
+use trails_tests::plain::kinds::{Kind, KINDS, MILLIMETRES, SILENCES};
 use trails_tests::plain::place::Time;
-use trails_tests::plain::{Fix, Trail, MOST_FIXES};
-use trails_tests::questions::{asked_of_every_shape, crosses, refused_in_order, told, Asked as _};
-use trails_tests::shapes::{trail, SHAPES};
+use trails_tests::plain::{Fix, Trail};
+use trails_tests::questions::{
+    asked_of_every_shape, asked_of_the_longest, crosses, refused_in_order, told,
+};
 
 // ---- by hand
 
@@ -22,16 +23,9 @@ struct Row {
 
 type Asked = ((u32, u32), (i32, i32), (i32, i32), Option<(u64, u32)>);
 
-/// The record of fixes by hand, never thinned.
-fn record(kind: Kind, fixes: impl IntoIterator<Item = Fix>) -> Vec<u8> {
-    buffer(&Trail::never_thinned(kind, fixes.into_iter().collect()))
-}
-
 impl Row {
     fn holds(&self, kind: Kind) {
-        let mut fixes: Vec<Fix> = self.fixes.iter().copied().map(Fix::from).collect();
-        self.silent.iter().for_each(|&k| fixes[k].silence = 1);
-        let bytes = record(kind, fixes);
+        let bytes = buffer_of(kind, by_hand(self.fixes, self.silent));
         for &((start, end), x, y, time) in self.asked {
             let question = Question {
                 window: Window { start, end },
@@ -153,10 +147,7 @@ const LONE: Row = Row {
 
 /// The largest numbers of every kind: the longest span at the end of the clock, from wall to wall.
 const WALLS: Row = Row {
-    fixes: &[
-        (4_294_901_760, -16_000, 16_000),
-        (4_294_967_295, 16_000, -16_000),
-    ],
+    fixes: &CORNERS,
     silent: &[],
     asked: &[
         (
@@ -210,10 +201,7 @@ fn trails_worked_by_hand() {
 
 /// The same walls in millimetres: denominators up to 320,000, and numerators above 2³².
 const FAR_WALLS: Row = Row {
-    fixes: &[
-        (4_294_901_760, -160_000, 160_000),
-        (4_294_967_295, 160_000, -160_000),
-    ],
+    fixes: &FAR_CORNERS,
     silent: &[],
     asked: &[
         // 65,535 · 319,999 / 320,000
@@ -351,13 +339,7 @@ fn silences_have_their_ends_and_nothing_between() {
 /// At an end of a silence the denominator is 1, also where both coordinates came a long way to it.
 #[test]
 fn an_end_of_a_silence_is_told_in_whole_seconds() {
-    let mut fixes = SLOPES
-        .fixes
-        .iter()
-        .copied()
-        .map(Fix::from)
-        .collect::<Vec<_>>();
-    fixes[1].silence = 1;
+    let fixes = by_hand(SLOPES.fixes, &[1]);
     for (end, edges) in [(7, ((7, 7), (-21, -21))), (14, ((14, 14), (0, 0)))] {
         let question = Question {
             window: Window {
@@ -366,7 +348,7 @@ fn an_end_of_a_silence_is_told_in_whole_seconds() {
             },
             area: Area::new(edges.0, edges.1),
         };
-        let answer = crosses(&record(SILENCES, fixes.clone()), &question, "an end");
+        let answer = crosses(&buffer_of(SILENCES, fixes.clone()), &question, "an end");
         let told = numbers(answer);
         assert_eq!(told, [0, 1, end * told[3], told[3]]);
         // the first end may also be told as the end of the leg before it
@@ -385,7 +367,7 @@ fn a_numerator_above_32_bits_is_told_whole() {
         },
         area: Area::new((159_999, 160_000), (-160_000, 160_000)),
     };
-    let answer = crosses(&record(MILLIMETRES, fixes), &question, "walls");
+    let answer = crosses(&buffer_of(MILLIMETRES, fixes), &question, "walls");
     assert_eq!(numbers(answer), [0, 1, 20_971_134_465, 320_000]);
 }
 
@@ -408,9 +390,6 @@ const MOVED: [Moved; 7] = [
     ((0, 15), (3, 5), (-11, -10), [13, 0, 0, 0]),
 ];
 
-/// From 0 on, with 65,536 in the midst and at the start, and up to the last second.
-const FIRSTS: [u32; 4] = [0, 65_529, 65_536, 4_294_967_281];
-
 /// The slopes from each of these seconds on are asked the same, where 32 bits hold the window.
 #[test]
 fn a_trail_and_its_window_moved_alike_have_the_same_answer() {
@@ -419,7 +398,7 @@ fn a_trail_and_its_window_moved_alike_have_the_same_answer() {
 
 fn is_answered_the_same(kind: Kind) {
     for (window, x, y, expected) in MOVED {
-        let asked = FIRSTS.into_iter().filter_map(|first| {
+        let asked = firsts(14).into_iter().filter_map(|first| {
             let second = |after| first.checked_add_signed(after);
             let question = Question {
                 window: Window {
@@ -429,7 +408,7 @@ fn is_answered_the_same(kind: Kind) {
                 area: Area::new(x, y),
             };
             let fix = |&(t, x, y): &(u32, i32, i32)| Fix::from((t - 100 + first, x, y));
-            let bytes = record(kind, SLOPES.fixes.iter().map(fix));
+            let bytes = buffer_of(kind, SLOPES.fixes.iter().map(fix));
             let name = format!("from {first}");
             Some(numbers(crosses(&bytes, &question, &name)))
         });
@@ -482,45 +461,21 @@ fn trails_of_every_shape_are_answered_as_the_plain_version_does() {
 
 #[test]
 fn the_longest_trails_are_answered_as_the_plain_version_does() {
-    let mut random = Random::new(Settings::get().seed);
     for kind in KINDS {
         let mut sorts = Sorts::default();
-        for shape in SHAPES {
-            let trail = trail(kind, shape, MOST_FIXES, &mut random);
-            let bytes = buffer(&trail);
-            let name = format!("{kind}, {shape:?}, the longest");
-            for _ in 0..100 {
-                let question = Question::good(&trail, &mut random);
-                let answer = crosses(&bytes, &question, &name);
-                sorts.count(&answer, &trail, question.window, &name);
-            }
-        }
+        asked_of_the_longest(kind, 100, |trail, bytes, question: Question, name| {
+            let answer = crosses(bytes, &question, name);
+            sorts.count(&answer, trail, question.window, name);
+        });
         sorts.expect_all();
     }
-}
-
-/// The record of three fixes with these bytes after the first two; if both are 0, in centimetres.
-fn with_silences(mut fixes: [Fix; 3], silent: [u8; 2]) -> Vec<u8> {
-    (fixes[0].silence, fixes[1].silence) = (silent[0], silent[1]);
-    let kind = match silent {
-        [0, 0] => CENTIMETRES,
-        _ => SILENCES,
-    };
-    record(kind, fixes)
 }
 
 /// All boxes of a small grid, and all windows, on small trails: every way to touch is among them.
 #[test]
 fn every_small_box_and_window() {
-    let settings = Settings::get();
-    let mut random = Random::new(settings.seed);
     let ranges = |from: i32, to: i32| (from..=to).flat_map(move |a| (a..=to).map(move |b| (a, b)));
-    for _ in 0..settings.cases / 200 {
-        let mut coordinate = || random.between(-2, 2) as i32;
-        let mut small = |t| (t, coordinate(), coordinate());
-        let small = [small(0), small(1), small(3)].map(Fix::from);
-        let silent = [0, 1].map(|_| random.between(0, 1) as u8);
-        let bytes = with_silences(small, silent);
+    for bytes in small_records(200) {
         for x in ranges(-2, 2) {
             for y in ranges(-2, 2) {
                 for (start, end) in ranges(0, 3) {

@@ -2,12 +2,16 @@
 //! tried on.
 #![forbid(unsafe_code)]
 
-use trails::{Aging, AnyFix, Area, Fix, Fixes, MillimetreFix, OfKind, SilenceFix};
-use trails::{Kind as Offered, Moment, Refusal, Row, Table, Unit, Window};
+use trails::{
+    Aging, AnyFix, Approach, Area, Crossing, Fix, Fixes, MillimetreFix, OfKind, SilenceFix,
+};
+use trails::{Kind as Offered, Moment, Point, Refusal, Row, Table, Unit, Window};
 use trails_tests::cases::{Case, Cases, Random, Settings};
 use trails_tests::plain::kinds::{Kind, CENTIMETRES, KINDS, MILLIMETRES};
 use trails_tests::plain::lists::Call;
-use trails_tests::plain::{self, crossing, moment, table};
+use trails_tests::plain::place::Time;
+use trails_tests::plain::{self, approach, crossing, moment, table};
+use trails_tests::questions::Asked as _;
 use trails_tests::tables::RowColumns;
 
 fn cases() -> Vec<Case> {
@@ -36,6 +40,7 @@ fn kinds_have_their_numbers() {
         let limits = of.unit().limits();
         assert_eq!(limits.place, kind.limit);
         assert_eq!(limits.tolerance, kind.top);
+        assert_eq!(limits.radius, kind.radius);
         assert_eq!(limits.per_centimetre, kind.times);
         assert_eq!(Offered::of_code(kind.code), Some(of));
         assert_eq!(of.unit().to_string(), kind.unit);
@@ -341,11 +346,20 @@ fn crossings_are_told_before_and_after_agings() {
         };
         let area = some_box(case.kind(), &mut random);
         agrees(&case.bytes, area, window, &case.name);
-        after_a_list(&case, area, window);
+        after_a_list(
+            &case,
+            |bytes, list| trails::crosses_after(bytes, list, area, window),
+            |bytes| trails::crosses(bytes, area, window),
+        );
     }
 }
 
-fn after_a_list(case: &Case, area: Area, window: Window) {
+/// The package's way to ask after a list is to make it and to ask, and where the question is refused to do neither.
+fn after_a_list<T: PartialEq + std::fmt::Debug>(
+    case: &Case,
+    ask_after: impl Fn(&mut [u8], &[Aging]) -> Result<T, Refusal>,
+    ask: impl Fn(&[u8]) -> Result<T, Refusal>,
+) {
     let list = [
         Aging::Days(7, Table::built_in()),
         Aging::Tolerance(60_001),
@@ -361,8 +375,8 @@ fn after_a_list(case: &Case, area: Area, window: Window) {
     // one of them is turned away, if not the record
     assert_eq!(told, answers[0].map(|_| 1), "{}", case.name);
     let mut asked = case.bytes.clone();
-    let answer = trails::crosses_after(&mut asked, &list, area, window);
-    assert_eq!(answer, trails::crosses(&in_turn, area, window));
+    let answer = ask_after(&mut asked, &list);
+    assert_eq!(answer, ask(&in_turn));
     let left = if answer.is_ok() {
         &in_turn
     } else {
@@ -385,16 +399,53 @@ fn agrees(bytes: &[u8], area: Area, window: Window, name: &str) {
         },
     };
     let told = number(trails::crosses(bytes, area, window));
-    let expected = crossing::crosses(bytes, &question);
-    match (told, expected) {
-        (Ok(Some(told)), Ok(Some(time))) => {
-            let (p, q) = (i128::from(told.numerator), i128::from(told.denominator));
-            assert_eq!(p * time.q, time.p * q, "{name}");
-        }
-        (told, expected) => assert_eq!(
-            told.map(|yes| yes.is_some()),
-            expected.map(|yes| yes.is_some()),
-            "{name}"
-        ),
+    let time = |told: Crossing| Time {
+        p: told.numerator.into(),
+        q: told.denominator.into(),
+    };
+    let told = told.map(|told| told.map(time));
+    assert_eq!(told, crossing::crosses(bytes, &question), "{name}");
+}
+
+#[test]
+fn approaches_are_told_before_and_after_agings() {
+    let mut random = Random::new(14);
+    for case in cases() {
+        let faults: &[u8] = if random.one_in(10) { &[16] } else { &[] };
+        let circle = approach::Circle::spoiled(&case.bytes, faults, &mut random).question;
+        let approach::Circle { x, y, radius } = circle;
+        let (point, name) = (Point { x, y }, &case.name);
+        let told = number(trails::near(&case.bytes, point, radius));
+        let first = |told: Approach| approach::Approach {
+            leg: told.leg as usize,
+            time: Time {
+                p: told.numerator.into(),
+                q: told.denominator.into(),
+            },
+        };
+        let told = told.map(|told| told.map(first));
+        assert_eq!(told, approach::near(&case.bytes, &circle), "{name}");
+        after_a_list(
+            &case,
+            |bytes, list| trails::near_after(bytes, list, point, radius),
+            |bytes| trails::near(bytes, point, radius),
+        );
     }
+}
+
+#[test]
+fn approaches_are_equal_by_leg_and_value() {
+    let approach = |leg, numerator, denominator| Approach {
+        leg,
+        numerator,
+        denominator,
+    };
+    let one = approach(2, 6, 4);
+    assert_eq!(one, approach(2, 3, 2));
+    assert_ne!(one, approach(1, 3, 2));
+    assert_ne!(one, approach(2, 4, 2));
+    // products that 64 bits don't hold
+    let late = approach(0, 13_421_772_800_000_000, 204_800_000_000);
+    assert_eq!(late, approach(0, 65_536, 1));
+    assert_ne!(late, approach(0, 65_535, 1));
 }

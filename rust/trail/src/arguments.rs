@@ -6,7 +6,7 @@ use std::os::unix::ffi::OsStrExt;
 use std::path::Path;
 use std::str::FromStr;
 
-use trails::{Area, Window};
+use trails::{Area, Point, Window};
 
 use crate::failure::{Failure, Status};
 use crate::numbers::whole;
@@ -179,6 +179,14 @@ impl Arguments {
             bottom,
             top,
         }))
+    }
+
+    pub fn point(&self) -> Result<Option<Point>, Failure> {
+        let numbers: Option<Vec<i32>> = self.numbers("--point")?;
+        let Some(&[x, y]) = numbers.as_deref() else {
+            return Ok(None);
+        };
+        Ok(Some(Point { x, y }))
     }
 
     pub fn window(&self) -> Result<Option<Window>, Failure> {

@@ -2,13 +2,11 @@
 
 use std::ffi::OsString;
 
-use trails::{Crossing, Unit};
-
+use crate::answer::{Answer, Yes};
 use crate::arguments::{Arguments, Command};
 use crate::failure::{Failure, Status};
-use crate::json::Json;
+use crate::meaning;
 use crate::trail::Trail;
-use crate::{meaning, output};
 
 pub const COMMAND: Command = Command {
     name: "cross",
@@ -52,50 +50,18 @@ fn run(arguments: &Arguments) -> Result<Status, Failure> {
     let crossing = trails::crosses(&trail.bytes, area, window);
     let crossing = crossing.map_err(|refusal| trail.refused(refusal))?;
     let silences = trail.silences_in(window);
-    let means = meaning::of_crossing(&trail, crossing.is_some(), silences);
-    let asked = match trail.unit() {
-        Unit::Centimetres => "",
-        // who has asked in centimetres is to see that the trail isn't
-        Unit::Millimetres => ", the box in mm",
+    let answer = Answer {
+        trail: &trail,
+        name: "crosses",
+        asked: "the box",
+        yes: crossing.map(|crossing| Yes {
+            leg: None,
+            numerator: crossing.numerator,
+            denominator: crossing.denominator.into(),
+        }),
+        silences,
+        means: meaning::of_crossing(&trail, crossing.is_some(), silences),
     };
-    match arguments.has("--json") {
-        true => {
-            let silences = Json::silences(trail.kind, silences);
-            output::print_json(answer(&trail, crossing, silences, means))?
-        }
-        false => output::print(&format!("{}{asked}; {means}\n", text(&trail, crossing)))?,
-    }
+    answer.print(arguments.has("--json"))?;
     Ok(Status::Done)
-}
-
-fn text(trail: &Trail, crossing: Option<Crossing>) -> String {
-    let Some(Crossing {
-        numerator,
-        denominator,
-    }) = crossing
-    else {
-        return "no".into();
-    };
-    let after = 1000 * u128::from(numerator) / u128::from(denominator.max(1));
-    let moment = 1000 * u128::from(trail.first()) + after;
-    let (second, thousandths) = (moment / 1000, moment % 1000);
-    let fraction = format!("{numerator}/{denominator} seconds after the first fix");
-    format!("yes, {fraction}, at {second}.{thousandths:03}")
-}
-
-fn answer(trail: &Trail, crossing: Option<Crossing>, silences: Json, means: String) -> Json {
-    let mut fields = vec![
-        ("file", Json::text(&trail.name)),
-        ("unit", Json::unit(trail.unit())),
-        ("crosses", Json::Truth(crossing.is_some())),
-    ];
-    if let Some(crossing) = crossing {
-        fields.push(("numerator", Json::Whole(crossing.numerator.into())));
-        fields.push(("denominator", Json::Whole(crossing.denominator.into())));
-        fields.push(("first", Json::Whole(trail.first().into())));
-    }
-    fields.push(("mark", Json::mark(trail.mark)));
-    fields.push(("silences", silences));
-    fields.push(("means", Json::text(means)));
-    Json::Object(fields)
 }

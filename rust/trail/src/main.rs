@@ -5,6 +5,7 @@
 #![forbid(unsafe_code)]
 
 mod age;
+mod answer;
 mod arguments;
 mod beside;
 mod check;
@@ -15,6 +16,7 @@ mod json;
 mod lines;
 mod list;
 mod meaning;
+mod near;
 mod numbers;
 mod options;
 mod output;
@@ -34,7 +36,7 @@ use std::thread;
 use arguments::{Arguments, Command};
 use failure::{Failure, Status};
 
-static COMMANDS: [Command; 9] = [
+static COMMANDS: [Command; 10] = [
     list::COMMAND,
     check::COMMAND,
     write::COMMAND,
@@ -42,6 +44,7 @@ static COMMANDS: [Command; 9] = [
     table::COMMAND,
     place::COMMAND,
     cross::COMMAND,
+    near::COMMAND,
     replay::COMMAND,
     plot::COMMAND,
 ];
@@ -56,6 +59,7 @@ usage: trail COMMAND ARGUMENTS
   table    check a hall's own table of days and tolerances, and print it
   place    say where a cart was at a moment
   cross    say whether a cart was in a box, and when first
+  near     say whether a cart came near a point, and when
   replay   try a list of agings on a trail, and print what each does
   plot     draw a trail
 

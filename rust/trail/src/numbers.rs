@@ -18,6 +18,7 @@ pub enum Range {
     Days,
     Tolerances(Option<Unit>),
     Places(Option<Unit>),
+    Radii,
 }
 
 fn of_unit(unit: Option<Unit>, range: fn(Unit) -> String) -> String {
@@ -34,6 +35,10 @@ impl fmt::Display for Range {
             Range::Tolerances(unit) => {
                 let most = |unit: Unit| in_threes(unit.limits().tolerance);
                 format!("0 to {}", of_unit(*unit, most))
+            }
+            Range::Radii => {
+                let most = |unit: Unit| in_threes(unit.limits().radius);
+                format!("0 to {}", of_unit(None, most))
             }
             Range::Places(unit) => of_unit(*unit, |unit| {
                 let most = in_threes(unit.limits().place.unsigned_abs());
@@ -111,6 +116,8 @@ mod tests {
         assert_eq!(Range::Places(other).to_string(), "-160,000 to 160,000");
         let both = Range::Tolerances(None).to_string();
         assert_eq!(both, "0 to 32,000 (in millimetres 60,000)");
+        let radii = Range::Radii.to_string();
+        assert_eq!(radii, "0 to 32,000 (in millimetres 320,000)");
         assert_eq!(Range::Seconds.to_string(), "0 to 4,294,967,295");
     }
 }

@@ -27,7 +27,7 @@ const fn choice(
 
 const EDGES: &[&str] = &["X0", "X1", "Y0", "Y1"];
 
-pub static OPTIONS: [Choice; 11] = [
+pub static OPTIONS: [Choice; 13] = [
     choice("--json", &[], None),
     choice("--force", &[], None),
     choice("--millimetres", &[], None),
@@ -37,6 +37,8 @@ pub static OPTIONS: [Choice; 11] = [
     choice("--table", &["FILE"], None),
     choice("--box", EDGES, Some(Range::Places(None))),
     choice("--window", &["S", "E"], Some(Range::Seconds)),
+    choice("--point", &["X", "Y"], Some(Range::Places(None))),
+    choice("--radius", &["R"], Some(Range::Radii)),
     choice("--original", &["FILE"], None),
     choice("-o", &["OUT"], None),
 ];

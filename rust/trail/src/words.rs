@@ -75,8 +75,8 @@ pub fn applied(tolerance: Option<u16>, unit: Unit) -> String {
 }
 
 /// A length as people read it.
-pub fn length(length: u16, unit: Unit) -> String {
-    format!("{length} {}", unit.symbol())
+pub fn length(length: impl Into<u32>, unit: Unit) -> String {
+    format!("{} {}", length.into(), unit.symbol())
 }
 
 #[cfg(test)]

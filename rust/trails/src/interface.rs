@@ -163,6 +163,33 @@ pub struct Question {
     pub top: i32,
 }
 
+/// Whether a cart came near a point. No `PartialEq`: fractions of one value may have different forms.
+#[repr(C)]
+#[derive(Clone, Copy, Debug)]
+pub struct Approach {
+    /// 0 for none; else all that follows is 0.
+    pub refusal: u32,
+    /// 1 for yes; 0 for no, and then all that follows is 0.
+    pub approaches: u32,
+    /// The first leg that comes within the radius, counted from 0.
+    pub leg: u32,
+    /// Seconds after the first fix, times the denominator.
+    pub numerator: u64,
+    /// From 1 to 2,048,000,000, or to 204,800,000,000 of a record in millimetres.
+    pub denominator: u64,
+}
+
+/// A point and a radius about it in the record's unit, as the functions take them.
+#[derive(Clone, Copy, Debug)]
+pub struct Circle {
+    /// The point's x.
+    pub x: i32,
+    /// Its y.
+    pub y: i32,
+    /// How far from it still is near.
+    pub radius: u32,
+}
+
 /// Room for every listing: none has more bytes.
 pub const LONGEST_TEXT: usize = 159_765;
 
@@ -235,6 +262,7 @@ extern "C" {
         bottom: i32,
         top: i32,
     ) -> Crossing;
+    fn trails_near(record: *const u8, lent: usize, x: i32, y: i32, radius: u32) -> Approach;
     fn trails_run(
         record: *mut u8,
         lent: usize,
@@ -257,6 +285,17 @@ extern "C" {
         bottom: i32,
         top: i32,
     ) -> Crossing;
+    fn trails_near_after(
+        record: *mut u8,
+        lent: usize,
+        calls: *const u64,
+        call_count: usize,
+        tables: *const u16,
+        table_numbers: usize,
+        x: i32,
+        y: i32,
+        radius: u32,
+    ) -> Approach;
 }
 
 /// Whether the bytes begin with a record: checks 1 to 9 and 20.
@@ -429,6 +468,12 @@ pub fn crosses(record: &[u8], asked: Question) -> Crossing {
     }
 }
 
+/// Whether the cart came near a point: checks 1 to 9, 20 and 16.
+pub fn near(record: &[u8], Circle { x, y, radius }: Circle) -> Approach {
+    // SAFETY: as in `check`.
+    unsafe { trails_near(record.as_ptr(), record.len(), x, y, radius) }
+}
+
 /// What a list of agings has for one by days: by the lent table k, counted from 0.
 pub fn by_table(k: usize, days: u16) -> u64 {
     ((k as u64 + 1) << 16) + u64::from(days)
@@ -474,6 +519,24 @@ pub fn crosses_after(
             asked.right,
             asked.bottom,
             asked.top,
+        )
+    }
+}
+
+/// Makes all agings of a list, as `run` does, and then asks as `near` does: checks 1 to 9, 20 and 16, before any aging.
+pub fn near_after(record: &mut [u8], calls: &[u64], tables: &[u16], asked: Circle) -> Approach {
+    // SAFETY: as in `run`.
+    unsafe {
+        trails_near_after(
+            record.as_mut_ptr(),
+            record.len(),
+            calls.as_ptr(),
+            calls.len(),
+            tables.as_ptr(),
+            tables.len(),
+            asked.x,
+            asked.y,
+            asked.radius,
         )
     }
 }

@@ -8,13 +8,19 @@
 //! unit. One of kind 3 has silences: between a fix that says so and the next one nobody knows where the cart was.
 //!
 //! ```
-//! use trails::{Area, Fix, Fixes, MillimetreFix, Moment, Refusal, Row, SilenceFix, Table, Unit, Window};
+//! use trails::{Area, Fix, Fixes, MillimetreFix, Moment, Point, Refusal, Row, SilenceFix, Table, Unit, Window};
 //!
 //! let fix = |t, x| Fix { t, x, y: 0 };
 //! let mut record = trails::write(&[fix(0, 0), fix(10, 100), fix(20, 200)])?;
 //! assert_eq!(trails::age(&mut record, 40_000), Err(Refusal::HighTolerance));
 //! assert_eq!(trails::age(&mut record, 0), Ok(1));
 //! assert_eq!(trails::fixes(&record)?, Fixes::Centimetres(vec![fix(0, 0), fix(20, 200)]));
+//!
+//! // within 30 cm of the washer: on the first leg, and closest to it after 40,000 / 40,000 seconds
+//! let washer = Point { x: 10, y: 30 };
+//! assert_eq!(trails::near(&record, washer, 29)?, None);
+//! let approach = trails::near(&record, washer, 30)?.expect("30 is near");
+//! assert_eq!((approach.leg, approach.numerator, approach.denominator), (0, 40_000, 40_000));
 //!
 //! let fix = |t, x| MillimetreFix { t, x, y: 0 };
 //! let mut record = trails::write(&[fix(0, 0), fix(10, 1_004), fix(20, 2_000)])?;
@@ -61,7 +67,8 @@ mod unit;
 pub use aging::{age, age_by_days, run, Aging};
 pub use fix::{AnyFix, Fix, Fixes, MillimetreFix, OfKind, SilenceFix};
 pub use kind::{of_every_kind, Kind};
-pub use questions::{crosses, crosses_after, place, Area, Crossing, Moment, Place, Window};
+pub use questions::{crosses, crosses_after, near, near_after, place};
+pub use questions::{Approach, Area, Crossing, Moment, Place, Point, Window};
 pub use record::{check, claimed_count, claimed_kind, fixes, list, write, write_into};
 pub use record::{Head, LONGEST};
 pub use refusal::Refusal;

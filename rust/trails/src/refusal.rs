@@ -35,6 +35,8 @@ pub enum Refusal {
     BadRowCount,
     /// 23: the table's days don't rise strictly, its tolerances fall, or one is above 32,000.
     BadRows,
+    /// 16: the point is outside −16,000 to 16,000, or the radius is above 32,000.
+    BadPoint,
     /// 10: the asked tolerance is above 32,000.
     HighTolerance,
     /// 11: the asked thousandths are above 999.
@@ -53,9 +55,9 @@ pub enum Refusal {
     Unknown(u32),
 }
 
-/// The nineteen, in checking order, each with its number and its sentence, in which the names of `LIMITS` stand for a
+/// The twenty, in checking order, each with its number and its sentence, in which the names of `LIMITS` stand for a
 /// kind's numbers.
-const SENTENCES: [(u32, Refusal, &str); 19] = [
+const SENTENCES: [(u32, Refusal, &str); 20] = [
     (1, Refusal::FewBytes, "The lent bytes are fewer than 10."),
     (2, Refusal::OtherKind, "The kind isn't 1, 2 or 3."),
     (3, Refusal::BadCount, "The count is 0 or above 4,096."),
@@ -101,6 +103,11 @@ const SENTENCES: [(u32, Refusal, &str); 19] = [
         "The table's days don't rise strictly, its tolerances fall, or one is above 32,000.",
     ),
     (
+        16,
+        Refusal::BadPoint,
+        "The point is outside {places}, or the radius is above {radius}.",
+    ),
+    (
         10,
         Refusal::HighTolerance,
         "The asked tolerance is above {tolerance}.",
@@ -140,12 +147,13 @@ const SENTENCES: [(u32, Refusal, &str); 19] = [
 /// A number that each kind has for itself, as sentences have it.
 type Limit = fn(Kind) -> String;
 
-const LIMITS: [(&str, Limit); 4] = [
+const LIMITS: [(&str, Limit); 5] = [
     ("{fix}", |kind| kind.fix_bytes().to_string()),
     ("{length}", |kind| format!("10 + {}n", kind.fix_bytes())),
     ("{tolerance}", |kind| {
         in_threes(kind.unit().limits().tolerance)
     }),
+    ("{radius}", |kind| in_threes(kind.unit().limits().radius)),
     ("{places}", |kind| {
         let most = in_threes(kind.unit().limits().place.unsigned_abs());
         format!("−{most} to {most}")
@@ -167,7 +175,7 @@ impl Refusal {
         known.map_or(Refusal::Unknown(number), |(_, refusal, _)| *refusal)
     }
 
-    /// Its number in the documents: 1 to 15 in document 01, 20 to 23 in document 02.
+    /// Its number in the documents: 1 to 15 in document 01, 16 and 20 to 23 in document 02.
     pub fn number(self) -> u32 {
         match self {
             Refusal::Unknown(number) => number,
@@ -222,7 +230,7 @@ mod tests {
         for number in (1..=100).chain([u32::MAX]) {
             let refusal = Refusal::from_number(number);
             assert_eq!(refusal.number(), number);
-            let known = matches!(number, 1..=15 | 20..=23);
+            let known = matches!(number, 1..=16 | 20..=23);
             assert_eq!(matches!(refusal, Refusal::Unknown(_)), !known);
             let sentences = Kind::ALL.map(|kind| refusal.sentence(kind));
             for sentence in sentences.into_iter().chain([refusal.to_string()]) {
@@ -238,6 +246,7 @@ mod tests {
         assert_eq!(Refusal::Unordered.number(), 8);
         assert_eq!(Refusal::HighTolerance.number(), 10);
         assert_eq!(Refusal::ShortOutput.number(), 15);
+        assert_eq!(Refusal::BadPoint.number(), 16);
         assert_eq!(Refusal::BadSilence.number(), 20);
         assert_eq!(Refusal::InSilence.number(), 21);
         assert_eq!(Refusal::BadRowCount.number(), 22);
@@ -272,6 +281,13 @@ mod tests {
         assert_eq!(
             Refusal::ShortOutput.to_string(),
             "The output has fewer than 10 + 8n (in millimetres 10 + 12n, with silences 10 + 9n) bytes."
+        );
+        assert_eq!(
+            all(Refusal::BadPoint)[..2],
+            [
+                "The point is outside −16,000 to 16,000, or the radius is above 32,000.",
+                "The point is outside −160,000 to 160,000, or the radius is above 320,000.",
+            ]
         );
         let of_none = "The kind isn't 1, 2 or 3.";
         assert_eq!(all(Refusal::OtherKind), [of_none; 4]);

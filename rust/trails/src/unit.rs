@@ -2,7 +2,8 @@
 
 use std::fmt;
 
-/// The unit of a record's lengths: of its places and its mark, and of the tolerances and boxes that it is asked with.
+/// The unit of a record's lengths: of its places and its mark, and of the tolerances, boxes, points and radii that it is
+/// asked with.
 #[derive(Clone, Copy, Debug, PartialEq, Eq, Hash)]
 pub enum Unit {
     /// Of records of kinds 1 and 3.
@@ -14,8 +15,10 @@ pub enum Unit {
 /// What lengths may be, in their unit.
 #[derive(Clone, Copy, Debug, PartialEq, Eq)]
 pub struct Limits {
-    /// How far from 0 an x, a y and a box's edge may be.
+    /// How far from 0 an x, a y, also of a point, and a box's edge may be.
     pub place: i32,
+    /// The greatest radius about a point.
+    pub radius: u32,
     /// The greatest tolerance, and the greatest mark.
     pub tolerance: u16,
     /// How many of the unit are a centimetre, in which tables of days have their tolerances.
@@ -31,11 +34,13 @@ impl Unit {
         match self {
             Unit::Centimetres => Limits {
                 place: 16_000,
+                radius: 32_000,
                 tolerance: 32_000,
                 per_centimetre: 1,
             },
             Unit::Millimetres => Limits {
                 place: 160_000,
+                radius: 320_000,
                 tolerance: 60_000,
                 per_centimetre: 10,
             },

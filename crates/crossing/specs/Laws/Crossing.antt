@@ -20,7 +20,8 @@ use Rattle.distance.specs.Integers.Tests.{Test, holds, fails, test, neither}
 use Rattle.legs.specs.declared.Fraction.{Fraction}
 use Rattle.legs.specs.declared.Frame.{Frame}
 use Rattle.legs.specs.Legs.{leg-first as leg-first-of, raised, framed}
-use Rattle.crossing.specs.Crossing.{or-else, followed, first-from, first-crossing, Crosses, Means}
+use Rattle.record.specs.Answers.{or-else}
+use Rattle.crossing.specs.Crossing.{followed, first-from, first-crossing, Crosses, Means}
 use Rattle.legs.specs.Laws.Times.{Said, IfSome, through, said-as}
 use Rattle.format.specs.Laws.Numbers.{false-true}
 use Rattle.record.specs.Laws.Trail.{CheckedTrail, Leg, checked-widest, next, leg-of, first-bounded}

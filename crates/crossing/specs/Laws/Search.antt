@@ -1,7 +1,7 @@
 -- The search along a record's fixes for the first leg that crosses.
 use mathlib.Core.Path.{_≡_, refl, _∙_}
 use mathlib.Core.Bool.{Bool, true, false, cond, _||_}
-use mathlib.Core.List.{List, _∷_}
+use mathlib.Core.List.{List}
 use mathlib.Core.Option.{some, none}
 use Prim.Native.Nat.{ℕ, _+_, _-_, _≤_, _<_}
 use native.Mathlib.Omega.{arith}
@@ -17,9 +17,10 @@ use Rattle.legs.specs.declared.Raised.{Raised}
 use Rattle.legs.specs.declared.Frame.{Frame}
 use Rattle.legs.specs.Laws.Ranges.{Reach, Low, LowFrame, LegFits, low-raised}
 use Rattle.legs.specs.Legs.{leg-first, raised}
-use Rattle.crossing.specs.Crossing.{or-else, first-from}
-use Rattle.record.specs.Laws.Trail.{CheckedTrail, from, from-next, from-end, next, leg-of, first-bounded, last-after, accepted-widest, lent}
-use Rattle.distance.specs.Fix.{Fix, widest, last-of}
+use Rattle.record.specs.Answers.{or-else}
+use Rattle.crossing.specs.Crossing.{first-from}
+use Rattle.record.specs.Laws.Trail.{from, from-next, from-end, Walk, walk-start, walk-bounded, walk-leg, walk-within, walk-next}
+use Rattle.distance.specs.Fix.{Fix}
 use Rattle.distance.specs.Silence.{silent}
 
 -- ---- the checks of a window and of a box, of the trail's first and last time
@@ -46,25 +47,19 @@ raised-either z false a b = refl
 
 -- what is left of the search: a is the fix before position k
 pub record Seek (K : Kind) (b : List ℕ) (n : ℕ) (f : Frame) (w v : ℕ) (a : Raised) (k : ℕ) : Type 0 where
-  pub some : 1 ≤ k
-  pub few : k ≤ n
+  pub walk : Walk K b n k
   pub frame : LowFrame f
   pub here : a ≡ raised ((fix-at K b 0) .t) (fix-at K b (k - 1))
-  pub checked : CheckedTrail widest (fix-at K b (k - 1)) (from (fix-at K b) k n)
-  pub base : (fix-at K b 0) .t ≤ (fix-at K b (k - 1)) .t
-  pub last : (last-of (fix-at K b (k - 1)) (from (fix-at K b) k n)) .t ≤ (fix-at K b 0) .t + 65535
   pub left : first-from ((fix-at K b 0) .t) (fix-at K b 0) (from (fix-at K b) 1 n) f w v ≡ first-from ((fix-at K b 0) .t) (fix-at K b (k - 1)) (from (fix-at K b) k n) f w v
 
-checked-n : {K : Kind} {b : List ℕ} {n : ℕ} {f : Frame} → Seekable K b n f → CheckedTrail widest (fix-at K b 0) (from (fix-at K b) 1 n)
-checked-n {b} r = rw (r .kind, r .count) (accepted-widest b (r .is-accepted))
+begun : {K : Kind} {b : List ℕ} {n : ℕ} {f : Frame} → Seekable K b n f → Walk K b n 1
+begun r = walk-start (r .is-accepted) (r .kind) (r .count)
 
 pub first-reach : {K : Kind} {b : List ℕ} {n : ℕ} {f : Frame} → Seekable K b n f → Reach ((fix-at K b 0) .t) (fix-at K b 0)
-first-reach {K} {b} {n} r = record { from = omega arith; to = omega arith; bounded = first-bounded (fix-at K b 0) (from (fix-at K b) 1 n) (checked-n r) }
+first-reach r = record { from = omega arith; to = omega arith; bounded = walk-bounded (begun r) }
 
 pub seek-start : {K : Kind} {b : List ℕ} {n : ℕ} {f : Frame} {a : Raised} (w v : ℕ) → Seekable K b n f → a ≡ raised ((fix-at K b 0) .t) (fix-at K b 0) → Seek K b n f w v a 1
-seek-start w v r e =
-    let c = checked-n r in
-    record { some = omega arith; few = lent (r .is-accepted) (r .kind) (r .count) .some; frame = r .frame; here = e; checked = c; base = omega arith; last = c .short; left = refl }
+seek-start w v r e = record { walk = begun r; frame = r .frame; here = e; left = refl }
 
 module _ {K : Kind} {b : List ℕ} {n : ℕ} {f : Frame} {w v : ℕ} {a : Raised} {k : ℕ} (x : Seek K b n f w v a k) where
   abbrev z : ℕ
@@ -74,25 +69,16 @@ module _ {K : Kind} {b : List ℕ} {n : ℕ} {f : Frame} {w v : ℕ} {a : Raised
   fix = fix-at K b
 
   low : Low a
-  low = rw (x .here) (low-raised z (fix (k - 1)) (first-bounded (fix (k - 1)) (from fix k n) (x .checked)))
+  low = rw (x .here) (low-raised z (fix (k - 1)) (walk-bounded (x .walk)))
 
   module _ (h : k < n) where
-    ahead : CheckedTrail widest (fix (k - 1)) (fix k ∷ from fix (k + 1) n)
-    ahead = rw (from-next fix k n h) at (x .checked)
-
-    last-ahead : (last-of (fix k) (from fix (k + 1) n)) .t ≤ z + 65535
-    unfolding last-of
-    last-ahead = rw (from-next fix k n h) at (x .last)
-
     pub seek-reach : Reach ((fix-at K b 0) .t) (fix-at K b k)
-    seek-reach =
-        let g = leg-of _ _ _ ahead in
-        record { from = omega (arith, g .rises, x .base); to = omega (arith, last-ahead, last-after (fix k) (from fix (k + 1) n) (next _ _ _ ahead .after)); bounded = g .bounded-b }
+    seek-reach = let t = walk-within (x .walk) h in record { from = t .0; to = t .1; bounded = walk-leg (x .walk) h .bounded-b }
 
     module _ {r : Raised} (e : r ≡ raised ((fix-at K b 0) .t) (fix-at K b k)) where
       pub seek-leg : {q : Raised} → q ≡ cond (silent (fix-at K b (k - 1))) a r → LegFits a q f
       seek-leg {q} s =
-          let g = leg-of _ _ _ ahead in
+          let g = walk-leg (x .walk) h in
           rw s (go (silent (fix (k - 1))) (record { order = rw (x .here, e) (omega (arith, g .rises)); start = low; end = rw e (low-raised z (fix k) (g .bounded-b)); frame = x .frame }))
         where
           go : (t : Bool) → LegFits a r f → LegFits a (cond t a r) f
@@ -109,27 +95,18 @@ module _ {K : Kind} {b : List ℕ} {n : ℕ} {f : Frame} {w v : ℕ} {a : Raised
       pub seek-next : {q : Raised} → q ≡ cond (silent (fix-at K b (k - 1))) a r → leg-first a q f w v ≡ none → Seek K b n f w v r (k + 1)
       seek-next s g =
           let m : k + 1 - 1 ≡ k = omega arith in
-          record {
-            some = omega arith;
-            few = omega arith;
-            frame = x .frame;
-            here = rw m e;
-            checked = rw m (next _ _ _ ahead);
-            base = rw m (seek-reach .from);
-            last = rw m last-ahead;
-            left = rw m (x .left ∙ step ∙ rw (← s, g) refl);
-          }
+          record { walk = walk-next (x .walk) h; frame = x .frame; here = rw m e; left = rw m (x .left ∙ step ∙ rw (← s, g) refl) }
 
   -- the fix before position k has its bytes
   pub before-within : k - 1 < n
-  before-within = omega (arith, x .some, x .few)
+  before-within = omega (arith, x .walk .some-leg, x .walk .few)
 
   pub seek-last : LegFits a a f
   seek-last = record { order = omega arith; start = low; end = low; frame = x .frame }
 
   pub seek-end : n ≤ k → first-from ((fix-at K b 0) .t) (fix-at K b 0) (from (fix-at K b) 1 n) f w v ≡ leg-first a a f w v
   unfolding first-from
-  seek-end h = let e : k ≡ n = omega (arith, x .few) in x .left ∙ rw (x .here, e, from-end fix n) refl
+  seek-end h = let e : k ≡ n = omega (arith, x .walk .few) in x .left ∙ rw (x .here, e, from-end fix n) refl
 
 pub frame-parts : (l r b t : Offset) (i j k m : ℕ) → l .0 ≡ i → r .0 ≡ j → b .0 ≡ k → t .0 ≡ m
     → _≡_ {A = Frame} (record { left = l; right = r; bottom = b; top = t }) (record { left = record { 0 = i }; right = record { 0 = j }; bottom = record { 0 = k }; top = record { 0 = m } })

@@ -6,7 +6,7 @@ use mathlib.Core.Option.{Option, some, none}
 use Prim.Native.Nat.{ℕ, _+_, _*_, _≤_}
 use native.Mathlib.Omega.{arith}
 use Rattle.distance.specs.Fix.{Fix}
-use Rattle.distance.specs.Place.{Time, place}
+use Rattle.distance.specs.Place.{Time, first-time, after-first, place}
 use Rattle.distance.specs.Box.{Box}
 use Rattle.distance.specs.Tenfold.{tenfold-fix, tenfold-box}
 use Rattle.distance.specs.Laws.All.{all-none, all-more}
@@ -22,7 +22,7 @@ use Rattle.record.specs.Tenfold.{Tenfold}
 use Rattle.record.specs.Laws.Changed.{ends-changed}
 use Rattle.record.specs.Laws.Tenfold.{tenfold-refusal, outside-tenfold}
 use Rattle.legs.specs.declared.Fraction.{Fraction}
-use Rattle.crossing.specs.Crossing.{Crosses, first-time, after-first, Told, Means, SameCrossing, first-crossing, asked-crossing, cross-refusal, cross-answer}
+use Rattle.crossing.specs.Crossing.{Crosses, Told, Means, SameCrossing, first-crossing, asked-crossing, cross-refusal, cross-answer}
 use Rattle.crossing.specs.Laws.Search.{edges-outside}
 use Rattle.crossing.specs.Laws.Checking.{asks-crossing, own-checks, given-means}
 

@@ -8,10 +8,11 @@ use native.Mathlib.Nat.{mul-le-mul-left, le-of-lt}
 use native.Mathlib.Omega.{arith}
 use lib.Dec.{ltb}
 use borrow.Author.Tests.{le-ltb, lt-ltb, ltb-true, eqb-true}
-use Rattle.distance.specs.Fix.{Fix, After, none-after, later}
-use Rattle.distance.specs.Place.{Time, Until}
+use Rattle.distance.specs.Fix.{Fix, After, none-after, later, Rising, rising}
+use Rattle.distance.specs.Place.{Time, From, Until}
 use Rattle.distance.specs.Silence.{silent, strictly-between, silence-from, in-silence, OutsideSilences}
 use Rattle.distance.specs.Laws.All.{All, all-more}
+use Rattle.distance.specs.Laws.Place.{after-last, after-rest}
 use Rattle.distance.specs.Integers.Tests.{Test, holds, fails, test, neither, both}
 
 -- ---- WHAT IT IS TO BE OUTSIDE SILENCES, in plain inequalities: of each leg that silence follows on, the time is not after its start or not before its end ..
@@ -89,6 +90,20 @@ module _ (u : Time) where
   pub on-leg-from : (a b : Fix) (r : List Fix) → After (a .t) (b ∷ r) → Until (b .t) u → silence-from a (b ∷ r) u ≡ silent a && strictly-between a b u
   unfolding silence-from
   on-leg-from a b r (later g k) t = rw (not-yet b k (t .until)) (or-false (silent a && strictly-between a b u))
+
+  -- and what stands before a is passed over
+  silence-past : (a b : Fix) (r : List Fix) (n : Fix) (l : List Fix) → After (n .t) (l ++ a ∷ b ∷ r) → From (a .t) u → silence-from n (l ++ a ∷ b ∷ r) u ≡ silence-from a (b ∷ r) u
+  unfolding silence-from
+  silence-past a b r n [] (later g k) f = rw (le-ltb (u .p) (u .q * a .t) (f .from), and-false (ltb (u .q * n .t) (u .p)), and-false (silent n)) refl
+  silence-past a b r n (m ∷ l) (later g k) f =
+      let e : u .q * m .t ≤ u .p = omega (arith, f .from, mul-le-mul-left (u .q) (le-of-lt (after-last a (b ∷ r) l k))) in
+      rw (le-ltb (u .p) (u .q * m .t) e, and-false (ltb (u .q * n .t) (u .p)), and-false (silent n)) (silence-past a b r m l k f)
+
+  -- ON A LEG OF A TRAIL, ends included: silent strictly between its two fixes, if silence follows the first
+  pub silence-on-leg : (l : List Fix) (a b : Fix) (r : List Fix) → Rising (l ++ a ∷ b ∷ r) → From (a .t) u → Until (b .t) u → in-silence (l ++ a ∷ b ∷ r) u ≡ silent a && strictly-between a b u
+  unfolding in-silence
+  silence-on-leg [] a b r (rising k) f t = on-leg-from a b r k t
+  silence-on-leg (n ∷ l) a b r (rising k) f t = silence-past a b r n l k f ∙ on-leg-from a b r (after-rest a (b ∷ r) l k) t
 
 -- ---- a trail whose fixes are each changed by f, at a time v that compares with their times as u did
 module _ (f : Fix → Fix) (u v : Time) (same-silence : (a : Fix) → f a .silence ≡ a .silence) (same-after : (a : Fix) → ltb (v .q * f a .t) (v .p) ≡ ltb (u .q * a .t) (u .p))

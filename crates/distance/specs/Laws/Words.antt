@@ -1,6 +1,6 @@
 -- Laws of numbers in two words.
 use mathlib.Core.Path.{_≡_, refl, sym}
-use mathlib.Core.Bool.{true, false}
+use mathlib.Core.Bool.{true, false, not}
 use Prim.Native.Nat.{ℕ, suc, _+_, _*_, _-_, _/_, _%_, _≤_, _<_}
 use native.Mathlib.Nat.{mul-le-mul}
 use native.Mathlib.Omega.{arith}
@@ -8,7 +8,7 @@ use lib.Dec.{ltb, leb}
 use borrow.Author.Tests.{lt-ltb, le-ltb}
 use Rattle.distance.specs.declared.words.Words.{Words}
 use Rattle.distance.specs.Words.{value, WordsOf}
-use Rattle.distance.specs.Integers.Tests.{same-test}
+use Rattle.distance.specs.Integers.Tests.{same-test, not-greater}
 
 -- ---- the square of a number below 2⁴⁰ before its words are normal: so small that two of them can be added
 pub record PartsOf (n : ℕ) (w : Words) : Type 0 where
@@ -47,3 +47,23 @@ words-unique p q = same (omega (arith, p .is, p .normal, q .is, q .normal)) (ome
 -- ONE WORD OR TWO DECIDES NOTHING: numbers in two words compare with each other, and with a number in one, as the numbers do.
 pub one-or-two : {n k : ℕ} {v w : Words} → WordsOf n v → WordsOf k w → (ltb (value v) (value w) ≡ ltb n k) × (leb (value v) k ≡ leb n k)
 one-or-two p q = (rw (p .is, q .is) refl, rw (p .is) refl)
+
+pub words-at-most : {n k : ℕ} {v w : Words} → WordsOf n v → WordsOf k w → not (ltb (value w) (value v)) ≡ leb n k
+words-at-most {n} {k} p q = rw (p .is, q .is) (not-greater n k)
+
+-- ---- squares that one word holds: x², y² and z² and the sum of the last two
+pub record SquaresInWord (x y z : ℕ) : Type 0 where
+  pub xx : x * x < 18446744073709551616
+  pub yy : y * y < 18446744073709551616
+  pub zz : z * z < 18446744073709551616
+  pub sum : y * y + z * z < 18446744073709551616
+
+pub squares-in-word : (x y z : ℕ) → x < 4294967296 → y + z < 4294967296 → SquaresInWord x y z
+squares-in-word x y z h k =
+    let all = mul-le-mul {n₁ = y + z} {m₁ = y + z} {n₂ = 4294967295} {m₂ = 4294967295} (omega arith) (omega arith) in
+    record {
+      xx = omega (arith, mul-le-mul {n₁ = x} {m₁ = x} {n₂ = 4294967295} {m₂ = 4294967295} (omega arith) (omega arith));
+      yy = omega arith;
+      zz = omega arith;
+      sum = omega arith;
+    }

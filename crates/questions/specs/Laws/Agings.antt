@@ -10,7 +10,7 @@ use lib.ListN.{length, drop}
 use lib.Seq.{drop-drop}
 use borrow.Author.Tests.{ne-eqb}
 use Rattle.distance.specs.Fix.{Fix, Rising}
-use Rattle.distance.specs.Place.{Time, place, Near}
+use Rattle.distance.specs.Place.{Time, AskedOf, place, Near}
 use Rattle.distance.specs.Integers.Tests.{Test, holds, fails, test}
 use Rattle.distance.specs.Laws.All.{All, all-none, all-more}
 use Rattle.distance.specs.Laws.Near.{near-self}
@@ -28,7 +28,7 @@ use Rattle.aging.specs.Aging.{Call, left-by, answered, applies, new-mark, recor
 use Rattle.thinning.specs.Laws.Trail.{again, no-more}
 use Rattle.thinning.specs.Laws.Near.{thinned-near}
 use Rattle.aging.specs.Laws.Step.{thins, step, left-refused, applies-low}
-use Rattle.questions.specs.Agings.{run, Book, new-book, greater, fed, fed-all, kept-at, mark-of, counts-as, AskedOf, one-if-refused, refused-calls, run-answer}
+use Rattle.questions.specs.Agings.{run, Book, new-book, greater, fed, fed-all, kept-at, mark-of, counts-as, one-if-refused, refused-calls, run-answer}
 
 -- ---- what the buffer is after some of the calls: b is the original's buffer, c the present one
 pub record State (b c : List ℕ) (E : Option ℕ) : Type 0 where

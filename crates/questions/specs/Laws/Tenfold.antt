@@ -21,7 +21,7 @@ use Rattle.crossing.specs.Laws.Tenfold.{cross-answer-tenfold}
 use Rattle.questions.specs.Agings.{run, refused-calls, Book, new-book, greater, fed, fed-all, counts-as}
 use Rattle.questions.specs.Claim.{book}
 use Rattle.questions.specs.Tenfold.{TenfoldCalls, no-calls, and-then, all-answered, TenfoldClaim}
-use Rattle.questions.specs.Laws.Asked.{asked-after}
+use Rattle.questions.specs.Laws.Asked.{crossing-after}
 
 -- ---- what a list leaves, and what its calls answer
 run-tenfold : (b c : List ℕ) {calls tens : List Call} → AreBytes b → AreBytes c → Tenfold b c → TenfoldCalls calls tens → Tenfold (run b calls) (run c tens)
@@ -75,7 +75,7 @@ tenfold-claim b c {calls} {tens} p q t k =
       same-E = E;
       same-bound = rw E (counts-tenfold ((book b calls) .E));
       places = (λ s m. place-answer-tenfold left s m);
-      crossings = (λ s e box. rw (asked-after s e (tenfold-box box) c tens q, asked-after s e box b calls p) (cross-answer-tenfold left s e box));
+      crossings = (λ s e box. rw (crossing-after s e (tenfold-box box) c tens q, crossing-after s e box b calls p) (cross-answer-tenfold left s e box));
     }
 
 -- .. and so of every accepted record of kind 1 that was never thinned, and of the one in millimetres that is made of it

@@ -124,3 +124,45 @@ lent {b} h k e = let g = accepted-good b h .head in rw (k, e) (record { some = g
 -- .. and each of its fixes has its bytes
 pub reaches : {K : Kind} {b : List ℕ} {n : ℕ} (k : ℕ) → Lent K b n → k < n → record-length K (suc k) ≤ length b
 reaches {K} {n} k l h = omega (arith, l .whole, longer K (suc k) n h)
+
+-- ---- A WALK along the fixes of an accepted record of n, leg by leg: the leg that ends with fix k is next
+pub record Walk (K : Kind) (b : List ℕ) (n k : ℕ) : Type 0 where
+  pub some-leg : 1 ≤ k
+  pub few : k ≤ n
+  pub short : n ≤ 4096
+  pub checked : CheckedTrail widest (fix-at K b (k - 1)) (from (fix-at K b) k n)
+  pub base : (fix-at K b 0) .t ≤ (fix-at K b (k - 1)) .t
+  pub last : (last-of (fix-at K b (k - 1)) (from (fix-at K b) k n)) .t ≤ (fix-at K b 0) .t + 65535
+
+pub walk-start : {K : Kind} {b : List ℕ} {n : ℕ} → IsAccepted b → K ≡ kind-of b → n ≡ count-field b → Walk K b n 1
+walk-start {K} {b} {n} a k e =
+    let l = lent a k e in
+    let c : CheckedTrail widest (fix-at K b 0) (from (fix-at K b) 1 n) = rw (k, e) (accepted-widest b a) in
+    record { some-leg = omega arith; few = l .some; short = l .few; checked = c; base = omega arith; last = c .short }
+
+module _ {K : Kind} {b : List ℕ} {n k : ℕ} (x : Walk K b n k) where
+  abbrev fix : ℕ → Fix
+  fix = fix-at K b
+
+  -- the fix before, with which the next leg begins
+  pub walk-bounded : Bounded widest (fix-at K b (k - 1))
+  walk-bounded = first-bounded (fix (k - 1)) (from fix k n) (x .checked)
+
+  module _ (h : k < n) where
+    ahead : CheckedTrail widest (fix (k - 1)) (fix k ∷ from fix (k + 1) n)
+    ahead = rw (from-next fix k n h) at (x .checked)
+
+    last-ahead : (last-of (fix k) (from fix (k + 1) n)) .t ≤ (fix 0) .t + 65535
+    unfolding last-of
+    last-ahead = rw (from-next fix k n h) at (x .last)
+
+    pub walk-leg : Leg widest (fix-at K b (k - 1)) (fix-at K b k)
+    walk-leg = leg-of _ _ _ ahead
+
+    pub walk-within : ((fix-at K b 0) .t ≤ (fix-at K b k) .t) × ((fix-at K b k) .t ≤ (fix-at K b 0) .t + 65535)
+    walk-within = (omega (arith, walk-leg .rises, x .base), omega (arith, last-ahead, last-after (fix k) (from fix (k + 1) n) (next _ _ _ ahead .after)))
+
+    pub walk-next : Walk K b n (k + 1)
+    walk-next =
+        let i : k + 1 - 1 ≡ k = omega arith in
+        record { some-leg = omega arith; few = omega arith; short = x .short; checked = rw i (next _ _ _ ahead); base = rw i (walk-within .0); last = rw i last-ahead }

@@ -4,6 +4,7 @@ use super::{Case, Operation};
 use crate::cases::{faults, faults_of_fixes, in_columns, kind_of, some_faults, spoil};
 use crate::cases::{Draft, Random};
 use crate::columns::Columns;
+use crate::plain::approach::Circle;
 use crate::plain::crossing::Question;
 use crate::plain::kinds::{Kind, KINDS};
 use crate::plain::lists::{Call, List};
@@ -28,7 +29,7 @@ pub fn drawn(random: &mut Random) -> Drawn {
 fn case(made: Kind, random: &mut Random) -> Case {
     let buffer = buffer(made, random);
     let kind = kind_of(&buffer, made);
-    let operation = match random.between(0, 12) {
+    let operation = match random.between(0, 14) {
         0 => Operation::Check,
         1 => Operation::Read(positions(random)),
         2 => return writing(made, random),
@@ -41,6 +42,11 @@ fn case(made: Kind, random: &mut Random) -> Case {
         9 => Operation::ReadAll(lent_columns(&buffer, random)),
         10 => by_days(Operation::Apply, random),
         11 => return loading(random),
+        12 => Operation::Near(asked::<Circle>(&buffer, &[16], random)),
+        13 => {
+            let circle = asked::<Circle>(&buffer, &[16], random);
+            Operation::NearAfter(agings(kind, random), circle)
+        }
         _ => {
             let question = asked::<Question>(&buffer, &[13, 14], random);
             Operation::CrossesAfter(agings(kind, random), question)

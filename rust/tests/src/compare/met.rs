@@ -4,8 +4,9 @@ use std::cmp::Ordering;
 use std::collections::BTreeMap;
 use std::fmt;
 
+use super::near;
 use super::recast::{self, OTHERS};
-use super::{Case, Crossed, Operation, Reply};
+use super::{Case, Operation, Reply};
 use crate::interface::Answer;
 use crate::plain;
 use crate::plain::crossing::earliest;
@@ -14,11 +15,12 @@ use crate::plain::lists::List;
 use crate::plain::table::{Table, NUMBERS};
 use crate::plain::thinning;
 use crate::plain::{Fix, Trail};
+use crate::told::Told;
 
 /// The operations, and what each can be refused for besides checks 1 to 9 and 20; the writer makes only some of those,
-/// and loading none.
+/// and loading none. `after` is the crossing after a list, and `neared` the approach.
 /// The listing tells its refusal in its text, so it is counted by what the checks say of its record.
-const OPERATIONS: [(&str, &[usize]); 13] = [
+const OPERATIONS: [(&str, &[usize]); 15] = [
     ("check", &[]),
     ("read", &[]),
     ("columns", &[]),
@@ -32,14 +34,16 @@ const OPERATIONS: [(&str, &[usize]); 13] = [
     ("place", &[11, 12, 21]),
     ("crosses", &[13, 14]),
     ("after", &[13, 14]),
+    ("near", &[16]),
+    ("neared", &[16]),
 ];
 
 /// With so many cases none of them may be missing.
 const ENOUGH: usize = 30_000;
 
 /// No refusal, and all that there are, in checking order.
-const REFUSALS: [usize; 20] = [
-    0, 1, 2, 3, 4, 5, 6, 7, 8, 9, 20, 22, 23, 10, 11, 12, 21, 13, 14, 15,
+const REFUSALS: [usize; 21] = [
+    0, 1, 2, 3, 4, 5, 6, 7, 8, 9, 20, 22, 23, 16, 10, 11, 12, 21, 13, 14, 15,
 ];
 
 /// What was met with records of one kind.
@@ -47,7 +51,7 @@ const REFUSALS: [usize; 20] = [
 struct Block {
     /// by refusal, 0 for none, and operation
     met: [[usize; OPERATIONS.len()]; 24],
-    said: BTreeMap<&'static str, usize>,
+    said: BTreeMap<Said, usize>,
 }
 
 #[derive(Default)]
@@ -59,7 +63,15 @@ pub struct Met {
     others: [usize; OTHERS.len()],
 }
 
-/// What answers that aren't refusals may say, or what they may be given to, each by its name.
+/// What an answer says, or what it is given to: the group's name, and its own.
+pub(super) type Said = (&'static str, &'static str);
+
+fn in_group(group: &'static str, said: Vec<&'static str>) -> Vec<Said> {
+    said.into_iter().map(|what| (group, what)).collect()
+}
+
+/// What answers that aren't refusals may say, or what they may be given to, each by its name; with what `near` has of
+/// approaches.
 const SAID: [(&str, &[&str]); 7] = [
     ("crossings", &["yes", "no", NOT_STRAIGHT]),
     ("lists", &["with calls turned away", "with none"]),
@@ -86,7 +98,7 @@ const APART: &str = "with sums apart above 64 bits only";
 
 /// Of crossings and agings: those of which something else came if silences were straight legs. And of agings, how many
 /// silences there were. Only kind 3 has any.
-const NOT_STRAIGHT: &str = "other than by straight legs";
+pub(super) const NOT_STRAIGHT: &str = "other than by straight legs";
 const NOT_ACROSS: &str = "other than across silences";
 const EVERY: &str = "after every fix but the last of several";
 
@@ -101,7 +113,7 @@ const CAPPED: &str = "on one of more than 6,000 centimetres";
 fn can_be_said(kind: Kind, group: &str, what: &str) -> bool {
     let of_silences = [NOT_STRAIGHT, NOT_ACROSS].contains(&what) || group.starts_with("silences");
     match what {
-        WIDE | APART | CAPPED => kind == MILLIMETRES,
+        WIDE | APART | CAPPED | near::WIDE => kind == MILLIMETRES,
         _ => kind == SILENCES || !of_silences,
     }
 }
@@ -121,35 +133,64 @@ fn column(operation: &Operation) -> usize {
         Operation::Place(_) => 10,
         Operation::Crosses(_) => 11,
         Operation::CrossesAfter(..) => 12,
+        Operation::Near(_) => 13,
+        Operation::NearAfter(..) => 14,
     }
 }
 
-fn said(case: &Case, reply: &Reply) -> Vec<&'static str> {
+fn said(case: &Case, reply: &Reply) -> Vec<Said> {
     match (&case.operation, reply) {
-        (_, Reply::Crossing(Crossed::Yes(_))) => said_of_crossing(case, "yes"),
-        (_, Reply::Crossing(Crossed::No)) => said_of_crossing(case, "no"),
+        (_, Reply::Crossing(told)) => match yes_or_no(told) {
+            Some(answer) => in_group("crossings", said_of_crossing(case, answer)),
+            None => Vec::new(),
+        },
+        (_, Reply::Approach(told)) => said_of_approach(case, told),
         (Operation::Run(list), Reply::Run(run)) if run.refusal == 0 => {
             let turned_away = match run.turned_away {
                 0 => "with none",
                 _ => "with calls turned away",
             };
-            [vec![turned_away], said_of_tables(list)].concat()
+            let tables = in_group("tables of lists", said_of_tables(list));
+            [vec![("lists", turned_away)], tables].concat()
         }
         (Operation::Days(days, table), Reply::Answer(Answer { refusal: 0, .. })) => {
-            said_of_days(*days, table)
+            in_group("days", said_of_days(*days, table))
         }
         (Operation::ReadAll(columns), Reply::Answer(answer)) if answer.refusal == 0 => {
-            said_of_columns(columns.lengths(), answer.value as usize)
+            let said = said_of_columns(columns.lengths(), answer.value as usize);
+            in_group("columns", said)
         }
         (Operation::Age(e), Reply::Answer(answer)) if answer.refusal == 0 => {
             let trail = plain::read(&case.buffer);
             trail.map_or(Vec::new(), |trail| match trail.kind {
-                MILLIMETRES => said_of_sums(&trail),
+                MILLIMETRES => in_group("agings", said_of_sums(&trail)),
                 _ => said_of_silences(&trail, *e),
             })
         }
         _ => Vec::new(),
     }
+}
+
+fn yes_or_no<Y>(told: &Told<Y>) -> Option<&'static str> {
+    match told {
+        Told::Yes(_) => Some("yes"),
+        Told::No => Some("no"),
+        _ => None,
+    }
+}
+
+/// Of an approach, and of what is asked if that is turned away; of one after a list no more than yes or no.
+fn said_of_approach<Y>(case: &Case, told: &Told<Y>) -> Vec<Said> {
+    let (Operation::Near(circle) | Operation::NearAfter(_, circle)) = &case.operation else {
+        return Vec::new();
+    };
+    let answer = yes_or_no(told).map(|answer| (near::APPROACHES, answer));
+    let more = match (&case.operation, plain::read(&case.buffer)) {
+        (_, Ok(trail)) if told.refusal() == 16 => near::said_of_refused(trail.kind, circle),
+        (Operation::Near(_), Ok(trail)) => near::said_of(&trail, circle, &unbroken(&trail.fixes)),
+        _ => Vec::new(),
+    };
+    answer.into_iter().chain(more).collect()
 }
 
 /// Of the tables that a list's calls have.
@@ -209,21 +250,22 @@ fn said_of_crossing(case: &Case, answer: &'static str) -> Vec<&'static str> {
     }
 }
 
-fn said_of_silences(trail: &Trail, e: u16) -> Vec<&'static str> {
+fn said_of_silences(trail: &Trail, e: u16) -> Vec<Said> {
     let Trail { fixes, .. } = trail;
     let silent = fixes.iter().filter(|fix| fix.is_before_silence()).count();
-    let mut said = vec![match silent {
+    let silences = match silent {
         0 => "none",
         1 => "one",
         many if many + 1 == fixes.len() => EVERY,
         _ => "some",
-    }];
+    };
+    let mut said = vec![("silences of agings", silences)];
     let times = |fixes: &[Fix]| -> Vec<u32> {
         let kept = thinning::thin(fixes, e).kept;
         kept.iter().map(|fix| fix.t).collect()
     };
     if times(fixes) != times(&unbroken(fixes)) {
-        said.push(NOT_ACROSS);
+        said.push(("agings", NOT_ACROSS));
     }
     said
 }
@@ -285,9 +327,10 @@ impl Block {
             let unmet = REFUSALS.into_iter().filter(unmet);
             missing.extend(unmet.map(|refusal| format!("{kind}: {name} with refusal {refusal}")));
         }
-        for (group, all) in SAID {
-            let unmet =
-                |what: &&&str| can_be_said(kind, group, what) && !self.said.contains_key(**what);
+        for (group, all) in SAID.into_iter().chain(near::SAID) {
+            let unmet = |what: &&&'static str| {
+                can_be_said(kind, group, what) && !self.said.contains_key(&(group, **what))
+            };
             let unmet = all.iter().filter(unmet);
             missing.extend(unmet.map(|what| format!("{kind}: {group} {what}")));
         }
@@ -328,9 +371,9 @@ impl Block {
             write!(f, "{all:>8}")?;
         }
         writeln!(f, "{:>9}", self.cases())?;
-        for (group, all) in SAID {
+        for (group, all) in SAID.into_iter().chain(near::SAID) {
             let can = all.iter().filter(|what| can_be_said(kind, group, what));
-            let met = |what| self.said.get(what).copied().unwrap_or(0);
+            let met = |what| self.said.get(&(group, what)).copied().unwrap_or(0);
             let shown: Vec<String> = can.map(|&what| format!("{} {what}", met(what))).collect();
             if !shown.is_empty() {
                 writeln!(f, "{group}: {}", shown.join(", "))?;

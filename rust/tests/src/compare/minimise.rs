@@ -6,14 +6,16 @@ use std::ops::Range;
 use super::{Case, Operation};
 use crate::cases::Random;
 use crate::columns::Columns;
+use crate::plain::approach::Circle;
 use crate::plain::crossing::Question;
 use crate::plain::kinds::{Kind, CENTIMETRES};
 use crate::plain::lists::List;
 use crate::plain::table::{Table, NUMBERS};
 use crate::tables::RowColumns;
 
-/// How many bytes of buffers may be tried, with some more for each try.
-const EFFORT: usize = 50_000_000;
+/// How many bytes of buffers may be tried, with some more for each try: a few seconds, after which each of the faults
+/// that the tests make has come down to a few fixes.
+const EFFORT: usize = 200_000_000;
 const EACH: usize = 64;
 
 /// How often small numbers are drawn for a whole case, and how many of them it may have.
@@ -318,25 +320,28 @@ impl Case {
     }
 
     fn without_listed(&self, range: Range<usize>) -> Case {
-        let mut case = self.clone();
-        match &mut case.operation {
-            Operation::Read(positions) => cut(positions, &range),
-            Operation::Run(list) | Operation::CrossesAfter(list, _) => cut(&mut list.calls, &range),
-            _ => {}
+        let mut case = self.with_agings(|list| cut(&mut list.calls, &range));
+        if let Operation::Read(positions) = &mut case.operation {
+            cut(positions, &range);
         }
         case
     }
 
     fn agings(&self) -> Option<&List> {
         match &self.operation {
-            Operation::Run(list) | Operation::CrossesAfter(list, _) => Some(list),
+            Operation::Run(list)
+            | Operation::CrossesAfter(list, _)
+            | Operation::NearAfter(list, _) => Some(list),
             _ => None,
         }
     }
 
     fn with_agings(&self, change: impl FnOnce(&mut List)) -> Case {
         let mut case = self.clone();
-        if let Operation::Run(list) | Operation::CrossesAfter(list, _) = &mut case.operation {
+        if let Operation::Run(list)
+        | Operation::CrossesAfter(list, _)
+        | Operation::NearAfter(list, _) = &mut case.operation
+        {
             change(list);
         }
         case
@@ -636,6 +641,11 @@ impl Case {
                 visit_list(list, change);
                 visit_question(question, change);
             }
+            Operation::Near(circle) => visit_circle(circle, change),
+            Operation::NearAfter(list, circle) => {
+                visit_list(list, change);
+                visit_circle(circle, change);
+            }
         }
     }
 }
@@ -665,4 +675,10 @@ fn visit_question(question: &mut Question, change: Visit) {
     ] {
         visit(edge, change);
     }
+}
+
+fn visit_circle(Circle { x, y, radius }: &mut Circle, change: Visit) {
+    visit(x, change);
+    visit(y, change);
+    visit(radius, change);
 }

@@ -1,10 +1,11 @@
 //! A case of another kind. A trail in centimetres with all its places times ten is the same trail in millimetres, so
-//! asked with all lengths times ten it keeps the same fixes with the same count, is at ten times the place, and is in
-//! the box at the same time. With silence bytes of 0 it is the same trail of kind 3, and asked the same it answers the
-//! same.
+//! asked with all lengths times ten it keeps the same fixes with the same count, is at ten times the place, is in the box
+//! at the same time, and comes near on the same leg at the same time. With silence bytes of 0 it is the same trail of
+//! kind 3, and asked the same it answers the same.
 
 use super::{Case, Operation, Outcome, Reply};
 use crate::columns::Columns;
+use crate::plain::approach::Circle;
 use crate::plain::crossing::{Area, Question};
 use crate::plain::kinds::{Kind, CENTIMETRES, MILLIMETRES, SILENCES};
 use crate::plain::lists::{Call, List};
@@ -93,6 +94,15 @@ fn question(question: &Question, kind: Kind) -> Option<Question> {
     Some(Question { window, area })
 }
 
+fn circle(circle: &Circle, kind: Kind) -> Option<Circle> {
+    let times = |length: i32| length.checked_mul(kind.times.into());
+    Some(Circle {
+        x: times(circle.x)?,
+        y: times(circle.y)?,
+        radius: circle.radius.checked_mul(kind.times.into())?,
+    })
+}
+
 fn asked(operation: &Operation, to: Kind) -> Option<Operation> {
     Some(match operation {
         Operation::List | Operation::Load(_) => return None,
@@ -108,6 +118,10 @@ fn asked(operation: &Operation, to: Kind) -> Option<Operation> {
         Operation::Crosses(asked) => Operation::Crosses(question(asked, to)?),
         Operation::CrossesAfter(list, asked) => {
             Operation::CrossesAfter(agings(list, to)?, question(asked, to)?)
+        }
+        Operation::Near(about) => Operation::Near(circle(about, to)?),
+        Operation::NearAfter(list, about) => {
+            Operation::NearAfter(agings(list, to)?, circle(about, to)?)
         }
         Operation::Days(days, table) | Operation::Apply(days, table) => {
             aging(Call::Days(*days, *table), to)?;
@@ -129,8 +143,8 @@ fn further(columns: &mut Columns, kind: Kind, first: usize) {
     }
 }
 
-/// What is compared of an outcome and that of the case of another kind: what is answered, the columns that were filled, and, where nothing was refused, the
-/// trail that is left.
+/// What is compared of an outcome and that of the case of another kind: what is answered, the columns that were filled,
+/// and, where nothing was refused, the trail that is left.
 #[derive(PartialEq)]
 struct Seen {
     reply: Reply,

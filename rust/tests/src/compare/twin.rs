@@ -1,9 +1,11 @@
 //! The twins of a case: the same trail at another time, asked about the same seconds of it. All times and asked seconds
 //! are moved by the same number of seconds and still fit 32 bits, so the answer must be the same, as document 02's item 4
-//! has it: a crossing's fraction in the same form, and of bytes that are refused the same refusal.
+//! has it: the fraction of a yes in the same form, and of bytes that are refused the same refusal.
 
-use super::{Case, Crossed, Operation, Outcome, Reply};
+use super::{Case, Operation, Outcome, Reply};
 use crate::cases::Random;
+use crate::plain::place::Time;
+use crate::told::Told;
 
 /// The first twin whose outcome by this side isn't the case's, moved.
 pub fn differing(side: &dyn Fn(&Case) -> Outcome, case: &Case) -> Option<Case> {
@@ -64,13 +66,17 @@ fn expected(outcome: &Outcome, fixes: usize, by: u32) -> Outcome {
     expected
 }
 
-/// Whether two outcomes are the same, and a crossing's fraction also in its form.
-fn same(one: &Outcome, other: &Outcome) -> bool {
-    let forms = match (&one.reply, &other.reply) {
-        (Reply::Crossing(Crossed::Yes(one)), Reply::Crossing(Crossed::Yes(other))) => {
-            (one.p, one.q) == (other.p, other.q)
-        }
-        _ => true,
+/// The numerator and the denominator of a yes.
+fn form(reply: &Reply) -> Option<(i128, i128)> {
+    let time = match reply {
+        Reply::Crossing(Told::Yes(time)) => Some(time),
+        Reply::Approach(Told::Yes(approach)) => Some(&approach.time),
+        _ => None,
     };
-    forms && one == other
+    time.map(|Time { p, q }| (*p, *q))
+}
+
+/// Whether two outcomes are the same, and the fraction of a yes also in its form.
+fn same(one: &Outcome, other: &Outcome) -> bool {
+    form(&one.reply) == form(&other.reply) && one == other
 }

@@ -16,7 +16,7 @@ pub struct Kind {
     pub width: usize,
     /// whether a byte after each fix says if a silence follows
     pub silences: bool,
-    /// a place and a box's edge are from minus this to this
+    /// a place, a point and a box's edge are from minus this to this
     pub limit: i32,
     /// the greatest tolerance, and the greatest mark but never
     pub top: u16,
@@ -24,6 +24,8 @@ pub struct Kind {
     pub times: u16,
     /// the greatest denominator of a crossing's fraction
     pub denominator: u32,
+    /// the greatest radius about a point
+    pub radius: u32,
 }
 
 /// "kind (2 bytes, 1 = trail)"
@@ -37,6 +39,7 @@ pub const CENTIMETRES: Kind = Kind {
     top: 32_000,
     times: 1,
     denominator: 32_000,
+    radius: 32_000,
 };
 
 /// "Kind 2 has fixes of 12 bytes: time, x, y of 4 bytes each, places −160,000 to 160,000, length 10 + 12n, tolerance
@@ -51,6 +54,7 @@ pub const MILLIMETRES: Kind = Kind {
     top: 60_000,
     times: 10,
     denominator: 320_000,
+    radius: 320_000,
 };
 
 /// "Kind 3 is kind 1 with one byte after each fix, which reader and writer pass on: 1 = silence follows, 0 = none; its

@@ -1,5 +1,6 @@
-//! A plain version of lists of agings: the calls, the book beside them, and a crossing asked after them.
+//! A plain version of lists of agings: the calls, the book beside them, and the questions asked after them.
 
+use super::approach::{self, Approach, Circle};
 use super::crossing::{self, Question};
 use super::kinds::Kind;
 use super::place::Time;
@@ -82,15 +83,33 @@ pub fn run(lent: &mut [u8], calls: &[Call]) -> Result<usize, u8> {
     Ok(answers.filter(Result::is_err).count())
 }
 
-/// The crossing of what the list leaves. Where the question is refused, the list isn't made.
+/// What a question is answered of what the list leaves. Where it is refused, the list isn't made.
+fn after<T>(
+    lent: &mut [u8],
+    calls: &[Call],
+    ask: impl Fn(&[u8]) -> Result<T, u8>,
+) -> Result<T, u8> {
+    ask(lent)?;
+    run(lent, calls)?;
+    ask(lent)
+}
+
+/// The crossing of what the list leaves.
 pub fn crosses_after(
     lent: &mut [u8],
     calls: &[Call],
     question: &Question,
 ) -> Result<Option<Time>, u8> {
-    crossing::crosses(lent, question)?;
-    run(lent, calls)?;
-    crossing::crosses(lent, question)
+    after(lent, calls, |lent| crossing::crosses(lent, question))
+}
+
+/// When what the list leaves came near a point.
+pub fn near_after(
+    lent: &mut [u8],
+    calls: &[Call],
+    circle: &Circle,
+) -> Result<Option<Approach>, u8> {
+    after(lent, calls, |lent| approach::near(lent, circle))
 }
 
 /// The plain book: the original, and E, at first none. It is fed the calls and sees no record.

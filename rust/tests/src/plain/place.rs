@@ -16,6 +16,13 @@ pub struct Time {
     pub q: i128,
 }
 
+/// By value: two forms of one fraction are equal.
+impl PartialEq for Time {
+    fn eq(&self, other: &Time) -> bool {
+        self.order(other).is_eq()
+    }
+}
+
 impl Time {
     pub fn whole(seconds: u32) -> Time {
         Time {
@@ -76,7 +83,7 @@ pub struct Place {
 }
 
 impl Place {
-    fn of(fix: Fix) -> Place {
+    pub fn of(fix: Fix) -> Place {
         Place {
             x: fix.x.into(),
             y: fix.y.into(),
@@ -108,11 +115,33 @@ impl Place {
         }
     }
 
-    /// "Two places are at most E apart if the squares of their differences in x and in y add up to at most E²."
-    pub fn near(&self, other: &Place, e: u16) -> bool {
+    /// How far it is from another, in x and in y, both over the product of their denominators.
+    fn off(&self, other: &Place) -> [i128; 2] {
         let x = self.x * other.d - other.x * self.d;
         let y = self.y * other.d - other.y * self.d;
-        let reach = i128::from(e) * self.d * other.d;
-        x * x + y * y <= reach * reach
+        [x, y]
+    }
+
+    /// The square of how far apart they are, as a fraction. The denominators may be as great as the square of a leg's
+    /// length: then every product stays within 128 bits.
+    pub fn square_apart(&self, other: &Place) -> (i128, i128) {
+        let [x, y] = self.off(other);
+        let d = self.d * other.d;
+        (x * x + y * y, d * d)
+    }
+
+    /// "Two places are at most E apart if the squares of their differences in x and in y add up to at most E²."
+    ///
+    /// The place at the time of a closest approach has a denominator whose squares leave 128 bits. So with each difference
+    /// as a whole number w and a rest f/d below 1, the squares add up to W + 2·F/d + C/d², where W, F and C are the sums
+    /// of w², w·f and f²; times d, and with C/d taken upward since all else is whole then, that is compared.
+    pub fn near(&self, other: &Place, e: impl Into<i128>) -> bool {
+        let (d, e) = (self.d * other.d, e.into());
+        let sum = |term: fn(i128, i128) -> i128| -> i128 {
+            let parts = self.off(other).map(|n| (n.div_euclid(d), n.rem_euclid(d)));
+            parts.iter().map(|(w, f)| term(*w, *f)).sum()
+        };
+        let (whole, mixed, rest) = (sum(|w, _| w * w), sum(|w, f| w * f), sum(|_, f| f * f));
+        (whole - e * e) * d + 2 * mixed + (rest + d - 1) / d <= 0
     }
 }

@@ -2,8 +2,9 @@
 
 use std::mem::{offset_of, size_of};
 
-use trails_tests::interface::{numbers, Answer, Applied, Crossing, Head, Loaded, Place};
-use trails_tests::interface::{Row, Run, Step, Table};
+use trails_tests::interface::{numbers, numbers_near, Answer, Applied, Approach, Crossing, Head};
+use trails_tests::interface::{Loaded, Place, Row, Run, Step, Table};
+use trails_tests::plain::approach;
 use trails_tests::plain::place::Time;
 
 /// A struct of the header, and where Rust has its fields.
@@ -25,7 +26,7 @@ macro_rules! layout {
     };
 }
 
-pub fn layouts() -> [Layout; 10] {
+pub fn layouts() -> [Layout; 11] {
     [
         layout!("trails_head", Head: refusal, kind, count, mark),
         layout!("trails_step", Step: refusal, found, kind, t, x, y, silence),
@@ -37,6 +38,7 @@ pub fn layouts() -> [Layout; 10] {
         layout!("trails_run", Run: refusal, turned_away),
         layout!("trails_place", Place: refusal, denominator, x, y, whole_x, whole_y),
         layout!("trails_crossing", Crossing: refusal, crosses, numerator, denominator),
+        layout!("trails_approach", Approach: refusal, approaches, leg, numerator, denominator),
     ]
 }
 
@@ -91,16 +93,37 @@ pub fn of_crossing(answer: Crossing) -> Vec<i64> {
     by_value(&numbers(answer).map(|n| n as i64))
 }
 
-pub fn of_time(result: Result<Option<Time>, u8>) -> Vec<i64> {
-    match result {
-        Err(number) => vec![number.into(), 0, 0],
-        Ok(None) => vec![0, 0, 0],
-        Ok(Some(time)) => vec![0, 1, (1_000 * time.p / time.q) as i64],
-    }
+pub fn of_approach(answer: Approach) -> Vec<i64> {
+    by_value(&numbers_near(answer).map(|n| n as i64))
 }
 
-/// A crossing's fields, with its time in thousandths, since the form of the fraction is free.
+fn thousandths(time: Time) -> i64 {
+    (1_000 * time.p / time.q) as i64
+}
+
+pub fn of_time(result: Result<Option<Time>, u8>) -> Vec<i64> {
+    let told = result.map(|told| told.map(|time| [thousandths(time)]));
+    of_told(told)
+}
+
+pub fn of_first(result: Result<Option<approach::Approach>, u8>) -> Vec<i64> {
+    let numbers = |told: approach::Approach| [told.leg as i64, thousandths(told.time)];
+    of_told(result.map(|told| told.map(numbers)))
+}
+
+/// A refusal, whether it is a yes, and the numbers of a yes.
+fn of_told<const N: usize>(result: Result<Option<[i64; N]>, u8>) -> Vec<i64> {
+    let (refusal, told) = match result {
+        Err(number) => (number.into(), None),
+        Ok(told) => (0, told),
+    };
+    let facts = [refusal, told.is_some().into()];
+    [&facts[..], &told.unwrap_or([0; N])].concat()
+}
+
+/// The fields of an answer whose last two are a time, with that in thousandths, since the form of the fraction is free.
 pub fn by_value(fields: &[i64]) -> Vec<i64> {
-    let time = (1_000 * fields[2]).checked_div(fields[3]);
-    vec![fields[0], fields[1], time.unwrap_or(0)]
+    let (facts, time) = fields.split_at(fields.len() - 2);
+    let time = (1_000 * time[0]).checked_div(time[1]);
+    [facts, &[time.unwrap_or(0)]].concat()
 }

@@ -63,10 +63,17 @@ impl InC {
         let number = |word: &str| word.parse().expect("a number");
         let numbers: Vec<i64> = line.split_whitespace().map(number).collect();
         match self.function.answer.as_str() {
-            "Crossing" => [&by_value(&numbers[..4]), &numbers[4..]].concat(),
+            "Crossing" => in_thousandths(&numbers, 4),
+            "Approach" => in_thousandths(&numbers, 5),
             _ => numbers,
         }
     }
+}
+
+/// The numbers of an answer of so many fields, the last two a time, and of all that was lent.
+fn in_thousandths(numbers: &[i64], fields: usize) -> Vec<i64> {
+    let (answer, lent) = numbers.split_at(fields);
+    [&by_value(answer), lent].concat()
 }
 
 /// Prints a field of an answer: its number, or all numbers that it has.

@@ -4,6 +4,7 @@
 
 use trails_tests::columns::Columns;
 use trails_tests::interface::{by_table, LONGEST_TEXT};
+use trails_tests::plain::approach::Circle;
 use trails_tests::plain::crossing::{Area, Question, Window};
 use trails_tests::plain::kinds::SILENCES;
 use trails_tests::plain::lists::List;
@@ -93,6 +94,13 @@ pub const QUESTION: Question = Question {
     },
 };
 
+/// Near the third leg alone, as its image with x and y exchanged is, at another time.
+pub const CIRCLE: Circle = Circle {
+    x: 500,
+    y: 400,
+    radius: 60,
+};
+
 /// What stands in the columns beforehand, and is a list to write.
 const COLUMNS: [(u32, i32, i32, u8); 5] = [
     (7, 1, -5, 0),
@@ -131,6 +139,9 @@ pub fn arguments() -> Vec<(&'static str, String)> {
         ("right", area.right.to_string()),
         ("bottom", area.bottom.to_string()),
         ("top", area.top.to_string()),
+        ("x", CIRCLE.x.to_string()),
+        ("y", CIRCLE.y.to_string()),
+        ("radius", CIRCLE.radius.to_string()),
     ]
 }
 

@@ -9,15 +9,15 @@ mod in_c;
 mod lent;
 
 use declared::{in_header, in_rust, Function};
-use fields::{layouts, of_answer, of_applied, of_crossing, of_head, of_loaded, of_place};
-use fields::{of_run, of_step, of_table, of_time, Layout};
+use fields::{layouts, of_answer, of_applied, of_approach, of_crossing, of_first, of_head};
+use fields::{of_loaded, of_place, of_run, of_step, of_table, of_time, Layout};
 use in_c::{from_c, printed, InC};
 use lent::{agings, lent_rows, table, Lent, BEFORE_SILENCE, COUNTS, DAYS, OUTPUT_BYTES, POSITION};
-use lent::{QUESTION, ROW_COUNTS, SECOND, THOUSANDTHS, TOLERANCE};
+use lent::{CIRCLE, QUESTION, ROW_COUNTS, SECOND, THOUSANDTHS, TOLERANCE};
 use trails_tests::plain::kinds::{Kind, CENTIMETRES, MILLIMETRES, SILENCES};
 use trails_tests::plain::lists::{self, Call};
 use trails_tests::plain::table::{Table, NUMBERS, ROWS};
-use trails_tests::plain::{self, crossing};
+use trails_tests::plain::{self, approach, crossing};
 use trails_tests::programs::project;
 use trails_tests::{expected, interface};
 
@@ -87,7 +87,7 @@ fn refusals_stand_in_checking_order() {
     let number = |line: &str| line.split_once(" = ").map(|(_, after)| first_number(after));
     let numbers: Vec<u32> = all.lines().filter_map(number).collect();
     let order = [
-        0, 1, 2, 3, 4, 5, 6, 7, 8, 9, 20, 22, 23, 10, 11, 12, 21, 13, 14, 15,
+        0, 1, 2, 3, 4, 5, 6, 7, 8, 9, 20, 22, 23, 16, 10, 11, 12, 21, 13, 14, 15,
     ];
     assert_eq!(numbers, order);
 }
@@ -121,8 +121,10 @@ fn plainly(name: &str) -> Vec<i64> {
         "trails_days_apply" => of_applied(expected::days_apply(record, DAYS, &table())),
         "trails_place" => of_place(expected::place(record, SECOND, THOUSANDTHS)),
         "trails_crosses" => of_time(crossing::crosses(record, &QUESTION)),
+        "trails_near" => of_first(approach::near(record, &CIRCLE)),
         "trails_run" => of_run(expected::run(record, &list)),
         "trails_crosses_after" => of_time(lists::crosses_after(record, &list.all(), &QUESTION)),
+        "trails_near_after" => of_first(lists::near_after(record, &list.all(), &CIRCLE)),
         other => panic!("{other} isn't tried here"),
     };
     [answer, lent.numbers()].concat()
@@ -175,10 +177,12 @@ fn from_rust(name: &str) -> Vec<i64> {
         "trails_days_apply" => of_applied(interface::days_apply(record, DAYS, &table())),
         "trails_place" => of_place(interface::place(record, SECOND, THOUSANDTHS)),
         "trails_crosses" => of_crossing(interface::crosses(record, &QUESTION)),
+        "trails_near" => of_approach(interface::near(record, &CIRCLE)),
         "trails_run" => of_run(interface::run(record, &agings())),
         "trails_crosses_after" => {
             of_crossing(interface::crosses_after(record, &agings(), &QUESTION))
         }
+        "trails_near_after" => of_approach(interface::near_after(record, &agings(), &CIRCLE)),
         other => panic!("{other} isn't tried here"),
     };
     [answer, lent.numbers()].concat()

@@ -8,13 +8,14 @@ mod svg;
 use std::ffi::{OsStr, OsString};
 use std::path::Path;
 
-use trails::{Area, Crossing, Refusal, Window};
+use trails::{Approach, Area, Crossing, Refusal, Window};
 
 use crate::arguments::{Arguments, Command};
 use crate::failure::{Failure, Status};
 use crate::store::store;
 use crate::trail::Trail;
 use crate::{files, words};
+use panel::Circle;
 use picture::Picture;
 
 pub const COMMAND: Command = Command {
@@ -24,6 +25,8 @@ pub const COMMAND: Command = Command {
         "--original",
         "--box",
         "--window",
+        "--point",
+        "--radius",
         "--tolerance",
         "-o",
         "--force",
@@ -33,7 +36,8 @@ pub const COMMAND: Command = Command {
 
 const HELP: &str = "\
 usage: trail plot FILE [--original FILE] [--box X0 X1 Y0 Y1] [--window S E]
-                  [--tolerance E] [--force] -o OUT.svg
+                  [--point X Y --radius R] [--tolerance E] [--force]
+                  -o OUT.svg
 
 Draws FILE's trail on the plane and, below, x and y against time, with its
 kept fixes marked. A silence is left open, with a ring at both its ends. The
@@ -47,6 +51,10 @@ picture suits light and dark backgrounds.
                    draw the box and the window, and mark where the trail is
                    first in the box; without --window that is asked of all its
                    seconds
+  --point X Y --radius R
+                   draw the point and the circle about it, and mark where the
+                   trail is closest to it on the first leg that comes into the
+                   circle
   -o OUT.svg       where the picture goes; '-' is the standard output
   --force          let the picture replace a trail, but never one that it
                    draws
@@ -73,6 +81,23 @@ fn first_in(
     let (asked, window) = (area.unwrap_or(hall), window.unwrap_or(always));
     let first = trails::crosses(&trail.bytes, asked, window)?;
     Ok(first.filter(|_| area.is_some()))
+}
+
+/// The point and the radius, which go together.
+fn circle(arguments: &Arguments) -> Result<Option<Circle>, Failure> {
+    match (arguments.point()?, arguments.number("--radius")?) {
+        (Some(point), Some(radius)) => Ok(Some(Circle { point, radius })),
+        (None, None) => Ok(None),
+        _ => Err(arguments.wrong("--point X Y and --radius R go together")),
+    }
+}
+
+/// When the trail is closest to the point on the first leg that comes into the circle.
+fn closest(trail: &Trail, circle: Option<Circle>) -> Result<Option<Approach>, Refusal> {
+    match circle {
+        Some(Circle { point, radius }) => trails::near(&trail.bytes, point, radius),
+        None => Ok(None),
+    }
 }
 
 /// The file's name without its folders, as far as a line has room for it.
@@ -108,6 +133,7 @@ fn output_of<'a>(arguments: &'a Arguments, drawn: &[&OsStr]) -> Result<&'a OsStr
 fn run(arguments: &Arguments) -> Result<Status, Failure> {
     let [name]: &[OsString; 1] = arguments.exactly("one file")?;
     let (area, window) = (arguments.area()?, arguments.window()?);
+    let circle = circle(arguments)?;
     let other = arguments.file("--original");
     let drawn: Vec<&OsStr> = [Some(name.as_os_str()), other]
         .into_iter()
@@ -122,8 +148,9 @@ fn run(arguments: &Arguments) -> Result<Status, Failure> {
         return Err(arguments.wrong("the trail and the original are in different units"));
     }
     let tolerance = band(arguments, &trail)?;
-    let first = first_in(&trail, area, window);
-    let first = first.map_err(|refusal| trail.refused(refusal))?;
+    let refused = |refusal| trail.refused(refusal);
+    let first = first_in(&trail, area, window).map_err(refused)?;
+    let closest = closest(&trail, circle).map_err(refused)?;
     let starts = [Some(&trail), original.as_ref()].into_iter().flatten();
     let picture = Picture {
         start: starts.map(Trail::first).min().unwrap_or(0),
@@ -135,6 +162,8 @@ fn run(arguments: &Arguments) -> Result<Status, Failure> {
         area,
         window,
         first,
+        circle,
+        closest,
     };
     store(to, &drawn, picture.svg().as_bytes())?;
     Ok(Status::Done)

@@ -1,6 +1,6 @@
 //! A panel of the picture: two axes with a grid, and what is drawn between them.
 
-use trails::{AnyFix, Area, Unit};
+use trails::{AnyFix, Area, Point, Unit};
 
 use super::scale::{Axis, Interval};
 use super::svg::{Anchor, Spot, Svg};
@@ -50,40 +50,48 @@ impl Panel {
     }
 }
 
-/// One of the two coordinates: its name, a fix's, and the box's edges.
+/// A point, and the radius of the circle about it.
+#[derive(Clone, Copy)]
+pub struct Circle {
+    pub point: Point,
+    pub radius: u32,
+}
+
+/// One of the two coordinates: its name, a fix's, the box's edges, and the point's.
 pub struct Side {
     pub name: &'static str,
     pub of: fn(&AnyFix) -> f64,
     pub edges: fn(&Area) -> (f64, f64),
+    pub point: fn(&Circle) -> f64,
 }
 
 pub const X: Side = Side {
     name: "x",
     of: |fix| fix.x.into(),
     edges: |area| (area.left.into(), area.right.into()),
+    point: |circle| circle.point.x.into(),
 };
 
 pub const Y: Side = Side {
     name: "y",
     of: |fix| fix.y.into(),
     edges: |area| (area.bottom.into(), area.top.into()),
+    point: |circle| circle.point.y.into(),
 };
 
 impl Side {
-    /// What an axis of this side shows: all fixes, the box, and the band unless it is wider than all of that; and a
-    /// decimetre at least.
-    pub fn interval<'a>(
+    /// From where to where all fixes, the box and the point are on this side, and a decimetre at least.
+    pub fn extent<'a>(
         &self,
         unit: Unit,
         fixes: impl Iterator<Item = &'a AnyFix>,
         area: Option<Area>,
-        tolerance: Option<u16>,
+        circle: Option<Circle>,
     ) -> Interval {
         let edges = area.iter().map(self.edges);
         let edges = edges.flat_map(|(low, high)| [low, high]);
+        let point = circle.as_ref().map(self.point);
         let least = 10.0 * f64::from(unit.limits().per_centimetre);
-        let all = Interval::of(fixes.map(self.of).chain(edges)).at_least(least);
-        let band = f64::from(tolerance.unwrap_or(0)).min(all.length());
-        all.wider(band + all.length() * 0.05)
+        Interval::of(fixes.map(self.of).chain(edges).chain(point)).at_least(least)
     }
 }

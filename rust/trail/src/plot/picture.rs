@@ -1,18 +1,18 @@
 //! The picture of a trail: the plane, and below it x and y against time.
 
-use trails::{AnyFix, Area, Crossing, Unit, Window};
+use trails::{AnyFix, Approach, Area, Crossing, Unit, Window};
 
 use crate::trail::stretches;
 use crate::words;
 
-use super::panel::{Panel, Side, X, Y};
+use super::panel::{Circle, Panel, Side, X, Y};
 use super::scale::{Axis, Interval};
 use super::svg::{Anchor, Spot, Svg};
 
 /// What is drawn.
 pub struct Picture {
     pub title: String,
-    /// the unit of all places, of the tolerance and of the box
+    /// the unit of all places, of the tolerance, of the box and of the circle
     pub unit: Unit,
     pub trail: Vec<AnyFix>,
     pub original: Option<Vec<AnyFix>>,
@@ -21,6 +21,9 @@ pub struct Picture {
     pub window: Option<Window>,
     /// when the trail is first in the box
     pub first: Option<Crossing>,
+    pub circle: Option<Circle>,
+    /// when the trail is closest to the point on the first leg that comes into the circle
+    pub closest: Option<Approach>,
     /// the second from which the picture counts time
     pub start: u32,
 }
@@ -42,6 +45,14 @@ const RING: f64 = 3.8;
 /// How much room an entry of the legend takes: a letter of this size is about 6.5 wide.
 fn room(words: &str) -> f64 {
     46.0 + 6.5 * words.chars().count() as f64
+}
+
+/// A circle with a cross at its point.
+fn draw_circle(svg: &mut Svg, (x, y): Spot, radius: f64) {
+    const ARM: f64 = 4.0;
+    svg.circle("near", (x, y), (10.0 * radius).round() / 10.0);
+    svg.line("point", (x - ARM, y), (x + ARM, y));
+    svg.line("point", (x, y - ARM), (x, y + ARM));
 }
 
 fn panel(across: Interval, up: Interval, (top, bottom): (f64, f64)) -> Panel {
@@ -102,6 +113,13 @@ impl Picture {
             .tolerance
             .map(|e| format!("within {} of the trail", words::length(e, self.unit)));
         let first = self.first_time();
+        let closest = self.closest_time().zip(self.closest);
+        let circle = self.circle.map(|circle| {
+            format!(
+                "within {} of the point",
+                words::length(circle.radius, self.unit)
+            )
+        });
         let silence = (!self.ends().is_empty()).then(|| "end of a silence".into());
         [
             ("original", original),
@@ -114,6 +132,11 @@ impl Picture {
             (
                 "first",
                 first.map(|s| format!("first in the box, {s:.3} s")),
+            ),
+            ("near", circle),
+            (
+                "closest",
+                closest.map(|(s, on)| format!("closest on leg {}, {s:.3} s", on.leg)),
             ),
         ]
         .into_iter()
@@ -134,8 +157,9 @@ impl Picture {
             let ends = [(x, y - 4.0), (x + 22.0, y - 4.0)];
             match class {
                 "trail" | "original" => svg.path(class, ends.into_iter()),
-                "fix" | "first" => svg.circle(class, (x + 14.0, y - 4.0), 4.0),
+                "fix" | "first" | "closest" => svg.circle(class, (x + 14.0, y - 4.0), 4.0),
                 "silence" => svg.circle(class, (x + 14.0, y - 4.0), 4.0 + RING),
+                "near" => draw_circle(svg, (x + 14.0, y - 4.0), 7.0),
                 _ => svg.rectangle(class, (x, y - 11.0), (x + 22.0, y + 2.0)),
             }
             svg.text("words", (x + 28.0, y), Anchor::Start, &words);
@@ -143,12 +167,39 @@ impl Picture {
         }
     }
 
-    /// When the cart is first in the box, in the picture's seconds.
-    fn first_time(&self) -> Option<f64> {
-        let first = self.first?;
-        let after = first.numerator as f64 / f64::from(first.denominator.max(1));
+    /// A fraction of seconds after the trail's first fix, in the picture's seconds.
+    fn after_first(&self, numerator: u64, denominator: u64) -> Option<f64> {
+        let after = numerator as f64 / denominator.max(1) as f64;
         let begin = self.trail.first()?;
         Some(self.time(begin.t) + after)
+    }
+
+    /// When the cart is first in the box.
+    fn first_time(&self) -> Option<f64> {
+        let first = self.first?;
+        self.after_first(first.numerator, first.denominator.into())
+    }
+
+    /// When the cart is closest to the point on the leg that is told.
+    fn closest_time(&self) -> Option<f64> {
+        let closest = self.closest?;
+        self.after_first(closest.numerator, closest.denominator)
+    }
+
+    /// The times that are marked on the trail, each with its class.
+    fn marks(&self) -> impl Iterator<Item = (&'static str, f64)> {
+        let marks = [
+            ("first", self.first_time()),
+            ("closest", self.closest_time()),
+        ];
+        marks
+            .into_iter()
+            .filter_map(|(class, second)| Some((class, second?)))
+    }
+
+    /// Where the cart is at one of the picture's seconds.
+    fn place_at(&self, second: f64) -> Option<(f64, f64)> {
+        Some((self.place(&X, second)?, self.place(&Y, second)?))
     }
 
     /// Where the trail is at one of the picture's seconds: on the straight line between the fixes around it.
@@ -171,8 +222,23 @@ impl Picture {
         }
     }
 
+    /// What an axis of this side shows: all fixes, the box and the point; the band, unless it is wider than all of that;
+    /// and the circle, unless its radius is more than all of that is wide on either side, since on the plane they have
+    /// one scale.
     fn interval(&self, side: &Side) -> Interval {
-        side.interval(self.unit, self.all(), self.area, self.tolerance)
+        let extent = |side: &Side| side.extent(self.unit, self.all(), self.area, self.circle);
+        let all = extent(side);
+        let band = f64::from(self.tolerance.unwrap_or(0)).min(all.length());
+        let shown = match &self.circle {
+            Some(circle) => {
+                let widest = extent(&X).length().max(extent(&Y).length());
+                let radius = f64::from(circle.radius).min(widest);
+                all.wider(band)
+                    .and(Interval::about((side.point)(circle), radius))
+            }
+            None => all.wider(band),
+        };
+        shown.wider(all.length() * 0.05)
     }
 
     /// What an axis of places is named.
@@ -198,16 +264,30 @@ impl Picture {
                 let ((left, right), (bottom, top)) = ((X.edges)(area), (Y.edges)(area));
                 svg.rectangle("box", panel.at(left, bottom), panel.at(right, top));
             }
+            self.draw_near(svg, &panel);
             self.draw_trails(svg, spot);
-            let first = self.first_time();
-            let first = first.and_then(|s| Some((self.place(&X, s)?, self.place(&Y, s)?)));
-            if let Some((x, y)) = first {
-                svg.circle("first", panel.at(x, y), 5.0);
+            for (class, second) in self.marks() {
+                if let Some((x, y)) = self.place_at(second) {
+                    svg.circle(class, panel.at(x, y), 5.0);
+                }
             }
         });
         let (across, up) = ((RIGHT, PLANE.1 + 34.0), (LEFT - 6.0, PLANE.0 - 6.0));
         svg.text("words", across, Anchor::End, &self.named(&X));
         svg.text("words", up, Anchor::End, &self.named(&Y));
+    }
+
+    /// The circle about the point, which has one scale in x and in y, and how far from the point the cart is closest.
+    fn draw_near(&self, svg: &mut Svg, panel: &Panel) {
+        let Some(circle) = &self.circle else {
+            return;
+        };
+        let point = panel.at((X.point)(circle), (Y.point)(circle));
+        draw_circle(svg, point, panel.across.room(circle.radius.into()));
+        let closest = self.closest_time().and_then(|s| self.place_at(s));
+        if let Some((x, y)) = closest {
+            svg.line("reach", point, panel.at(x, y));
+        }
     }
 
     /// The original, the trail over it, each with its silences left open, and the trail's fixes and the silences' ends
@@ -237,9 +317,10 @@ impl Picture {
             self.draw_band(svg, side, &panel);
             self.draw_question(svg, side, &panel);
             self.draw_trails(svg, |fix| panel.at(self.time(fix.t), (side.of)(fix)));
-            let first = self.first_time();
-            if let Some((s, place)) = first.and_then(|s| Some((s, self.place(side, s)?))) {
-                svg.circle("first", panel.at(s, place), 5.0);
+            for (class, second) in self.marks() {
+                if let Some(place) = self.place(side, second) {
+                    svg.circle(class, panel.at(second, place), 5.0);
+                }
             }
         });
         let above = (LEFT - 6.0, rows.0 - 6.0);
@@ -259,7 +340,8 @@ impl Picture {
         }
     }
 
-    /// The window from top to bottom, and the box's edges on this side as long as it is asked for.
+    /// The window from top to bottom, the box's edges on this side as long as it is asked for, and the point with the
+    /// circle's, always.
     fn draw_question(&self, svg: &mut Svg, side: &Side, panel: &Panel) {
         let ((left, top), (right, bottom)) = panel.corners();
         let edge = |second| panel.across.at(self.time(second));
@@ -272,6 +354,14 @@ impl Picture {
         let (start, end) = window.unwrap_or((left, right));
         if let Some((low, high)) = self.area.as_ref().map(side.edges) {
             svg.rectangle("box", (start, panel.up.at(low)), (end, panel.up.at(high)));
+        }
+        if let Some(circle) = &self.circle {
+            let (point, radius) = ((side.point)(circle), f64::from(circle.radius));
+            let [low, middle, high] =
+                [point - radius, point, point + radius].map(|c| panel.up.at(c));
+            // beyond the panel, so that only the circle's edges are seen
+            svg.rectangle("near", (left - 2.0, low), (right + 2.0, high));
+            svg.line("reach", (left, middle), (right, middle));
         }
     }
 }

@@ -23,6 +23,16 @@ impl Interval {
         })
     }
 
+    /// So far to either side of a value.
+    pub fn about(value: f64, by: f64) -> Interval {
+        Interval::of([value].into_iter()).wider(by)
+    }
+
+    /// The shortest that has both.
+    pub fn and(self, other: Interval) -> Interval {
+        Interval::of([self, other].into_iter().flat_map(|of| [of.low, of.high]))
+    }
+
     pub fn length(&self) -> f64 {
         self.high - self.low
     }
@@ -113,6 +123,7 @@ mod tests {
             interval(-4.0, 4.0)
         );
         assert_eq!(all.at_least(2.0), all);
+        assert_eq!(all.and(Interval::about(2.0, 3.0)), interval(-1.0, 5.0));
     }
 
     #[test]

@@ -30,7 +30,11 @@ text{font:12px sans-serif;fill:#1b1f24}
 .fix{fill:#ffffff;stroke:#0b5fbf;stroke-width:1.4}
 .silence{fill:none;stroke:#8250df;stroke-width:1.4}
 .box{fill:#b45309;fill-opacity:.12;stroke:#b45309;stroke-width:1.4}
+.near{fill:#1a7f37;fill-opacity:.1;stroke:#1a7f37;stroke-width:1.2}
+.point{stroke:#1a7f37;stroke-width:1.6}
+.reach{stroke:#1a7f37;stroke-width:1.2;stroke-dasharray:4 3}
 .first{fill:#c4201d;stroke:#ffffff}
+.closest{fill:#1a7f37;stroke:#ffffff}
 @media (prefers-color-scheme:dark){
 text{fill:#e6e9ee}
 .soft{fill:#9aa5b1}
@@ -45,7 +49,11 @@ text{fill:#e6e9ee}
 .fix{fill:#12161b;stroke:#6cb2ff}
 .silence{stroke:#c297ff}
 .box{fill:#f0a54a;stroke:#f0a54a}
+.near{fill:#57c26b;stroke:#57c26b}
+.point{stroke:#57c26b}
+.reach{stroke:#57c26b}
 .first{fill:#ff7b72;stroke:#12161b}
+.closest{fill:#57c26b;stroke:#12161b}
 }
 ";
 

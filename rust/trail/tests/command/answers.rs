@@ -9,9 +9,7 @@ use trails_tests::programs::project;
 
 use crate::folder::{fine_h, fine_h_at_105, fine_record, record, silent_h, silent_h_at_12};
 use crate::folder::{silent_record, trail_h, trail_h_at_12};
-use crate::folder::{Folder, AGED_H, AGE_H, PROGRAM};
-
-const NEVER: &str = "never thinned: this is the trail as the cart reported it";
+use crate::folder::{Folder, AGED_H, AGE_H, NEVER, PROGRAM};
 
 const LISTING: &str = "trail 4 never\nfix 0 0 0\nfix 10 20 0\nfix 20 20 0\nfix 30 0 0\nend\n";
 
@@ -27,11 +25,12 @@ fn list_prints_the_fixes() {
 }
 
 /// Commands that read h, or the standard input in its place.
-const READ_H: [&str; 5] = [
+const READ_H: [&str; 6] = [
     "list h",
     "check h",
     "place h 5",
     "cross h --box 0 1 0 1 --window 0 30",
+    "near h --point 0 9 --radius 9",
     "plot h -o -",
 ];
 

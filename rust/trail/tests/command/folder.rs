@@ -182,6 +182,9 @@ fn marked(mut record: Vec<u8>, mark: u16) -> Vec<u8> {
     record
 }
 
+/// What answers about a trail that was never thinned end with.
+pub const NEVER: &str = "never thinned: this is the trail as the cart reported it";
+
 /// An aging of h, and its answer.
 pub const AGE_H: [&str; 4] = ["age", "--tolerance", "12", "h"];
 pub const AGED_H: &str = "h: kept 3 of 4 fixes, measured 3, mark 12 cm, freed 8 bytes\n";

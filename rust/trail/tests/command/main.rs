@@ -2,6 +2,7 @@
 #![forbid(unsafe_code)]
 
 mod answers;
+mod approaches;
 mod folder;
 mod links;
 mod pictures;

@@ -52,7 +52,8 @@ fn a_trail_alone_has_its_fixes_in_three_panels() {
     assert_eq!(count(&picture, "trail"), 3 + 1);
     assert_eq!(count(&picture, "fix"), 3 * 4 + 1);
     for class in [
-        "original", "band", "within", "box", "window", "first", "silence",
+        "original", "band", "within", "box", "window", "first", "silence", "near", "point",
+        "reach", "closest",
     ] {
         assert_eq!(count(&picture, class), 0, "{class}");
     }
@@ -101,6 +102,58 @@ fn small_and_great_trails_are_drawn() {
     assert_eq!(count(&draw(&folder, "long"), "fix"), 3 * 4_096 + 1);
     let picture = draw(&folder, "one --original long");
     assert_eq!(count(&picture, "original"), 3 + 1);
+}
+
+/// The numbers of the first element of this class after the legend's: those of these attributes, in tenths.
+fn drawn(picture: &str, element: &str, class: &str, attributes: [&str; 3]) -> [i64; 3] {
+    let start = format!("<{element} class=\"{class}\" ");
+    let found = picture.split(&start).nth(2).expect("one on the plane");
+    attributes.map(|name| {
+        let (_, after) = found.split_once(&format!("{name}=\"")).expect("a number");
+        let (number, _) = after.split_once('"').expect("its end");
+        (10.0 * number.parse::<f64>().expect("a number")).round() as i64
+    })
+}
+
+/// A point beside h's first leg, with the circle about it, its edges against time, and where h is closest.
+#[test]
+fn a_point_is_drawn_with_its_circle() {
+    let folder = with_h();
+    let picture = draw(&folder, "h --point 10 9 --radius 9");
+    let counts = ["near", "point", "reach", "closest"].map(|class| count(&picture, class));
+    // each once in the legend too; in the other panels a strip and a line for the circle and the point
+    assert_eq!(counts, [4, 4, 3, 4]);
+    for words in ["within 9 cm of the point", "closest on leg 0, 5.000 s"] {
+        assert!(picture.contains(&format!(">{words}</text>")), "{words}");
+    }
+    // a circle through where it is closest, straight below the point
+    let [x, y, r] = drawn(&picture, "circle", "near", ["cx", "cy", "r"]);
+    let [at, below, _] = drawn(&picture, "circle", "closest", ["cx", "cy", "r"]);
+    assert_eq!(x, at);
+    assert!((below - y - r).abs() <= 1, "{below} {y} {r}");
+    // all of it is on the plane, which is drawn from 96 to 556 down
+    assert!(y - r >= 960 && y + r <= 5_560, "{y} {r}");
+    // h ends at x 0 and 20, so that the circle is as wide as 18 of these 20
+    let line = &spots(&picture);
+    assert!(
+        (line[1].0 - line[0].0 - 20 * r / 9).abs() <= 2,
+        "{line:?} {r}"
+    );
+    // a no is drawn without a place, and a box beside it
+    let picture = draw(&folder, "h --point 10 9 --radius 8 --box 5 10 -1 1");
+    let counts = ["near", "point", "reach", "closest"].map(|class| count(&picture, class));
+    assert_eq!(counts, [4, 4, 2, 0]);
+    assert!(picture.contains(">first in the box, 2.500 s</text>"));
+}
+
+/// A circle that is greater than the hall leaves the trail its room.
+#[test]
+fn a_great_circle_leaves_the_trail_in_sight() {
+    let folder = with_h();
+    let alone = spots(&draw(&folder, "h --point 10 0 --radius 10"));
+    let within = spots(&draw(&folder, "h --point 10 0 --radius 32000"));
+    let wide = |spots: &[(i64, i64)]| spots[1].0 - spots[0].0;
+    assert!(4 * wide(&within) > wide(&alone), "{within:?}");
 }
 
 /// The spots of each line of this class: in the legend, then on the plane, then against time, and there a line for each
@@ -187,7 +240,8 @@ fn a_mirrored_trail_is_drawn_mirrored() {
     }
 }
 
-/// Whatever is drawn and named, the legend's words stay in the picture, which is 960 wide; a letter is about 6.5.
+/// Whatever is drawn and named, the legend's words stay in the picture, which is 960 wide, and above the plane; a letter
+/// is about 6.5.
 #[test]
 fn the_legend_has_room() {
     let folder = Folder::new();
@@ -197,17 +251,21 @@ fn the_legend_has_room() {
         (65_535, 0, 0, 0),
     ];
     folder.put("t", silent_record(&far));
-    let asked = "--box 15999 16000 0 0 --window 0 65534 --tolerance 32000";
+    let asked = "--box 15999 16000 0 0 --window 0 65534 --tolerance 32000 --point 16000 16000 \
+                 --radius 32000";
     for words in [format!("t --original t {asked}"), "t".to_string()] {
         let picture = draw(&folder, &words);
         let legend = picture.split("<text class=\"words\" x=\"").skip(1);
         for text in legend.take_while(|text| text.contains("text-anchor=\"start\"")) {
-            let (x, rest) = text.split_once('"').expect("its place");
+            let (x, rest) = text.split_once("\" y=\"").expect("its place");
+            let (y, rest) = rest.split_once('"').expect("its row");
             let (_, rest) = rest.split_once('>').expect("its words");
             let (words, _) = rest.split_once('<').expect("their end");
             let x: f64 = x.parse().expect("a number");
             let end = x + 6.5 * words.chars().count() as f64;
             assert!(end < 960.0, "{words} ends at {end}");
+            let y: f64 = y.parse().expect("a number");
+            assert!(y < 96.0 - 4.0, "{words} stands at {y}");
         }
     }
 }

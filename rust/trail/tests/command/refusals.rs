@@ -86,8 +86,11 @@ const READERS: [&[&str]; 9] = [
 fn every_fault_of_a_record_is_named_by_every_command() {
     let folder = Folder::new();
     folder.put("calls", "days 30\n");
-    let cross = "cross t --box 0 1 0 1 --window 0 0";
-    let cross: Vec<&str> = cross.split(' ').collect();
+    let asked = [
+        "cross t --box 0 1 0 1 --window 0 0",
+        "near t --point 0 1 --radius 32001",
+    ];
+    let asked = asked.map(|line| line.split(' ').collect::<Vec<&str>>());
     let mut random = Random::new(3);
     for kind in KINDS {
         let of_each = |fault| [2, 40].map(|n| (n, fault));
@@ -99,7 +102,7 @@ fn every_fault_of_a_record_is_named_by_every_command() {
             folder.put("t", &bytes);
             let sentence = refused_in(kind, fault.into());
             let message = format!("t: {sentence}{}", count_told(fault, &bytes));
-            for words in READERS.iter().chain([&cross.as_slice()]) {
+            for words in READERS.into_iter().chain(asked.iter().map(Vec::as_slice)) {
                 folder.run(words).fails(1, &message);
                 assert!(folder.get("t") == bytes, "{words:?}");
             }
@@ -265,6 +268,31 @@ fn windows_and_boxes_are_refused() {
     of_h("cross h --box 1 0 0 1 --window 0 30").fails(1, &edges);
     of_h("cross h --box -16001 0 0 1 --window 0 30").fails(1, &edges);
     of_h("cross h --box 0 1 0 2147483647 --window 0 30").fails(1, &edges);
+}
+
+/// Check 16, which nothing is told besides.
+const BAD_POINT: &str = "The point is outside −16,000 to 16,000, or the radius is above 32,000.";
+
+#[test]
+fn points_and_radii_are_refused() {
+    let message = format!("h: refused 16: {BAD_POINT}");
+    for asked in [
+        "--point -16001 0 --radius 5",
+        "--point 16001 0 --radius 5",
+        "--point 0 -16001 --radius 5",
+        "--point 0 2147483647 --radius 5",
+        "--point 0 0 --radius 32001",
+        "--point 0 0 --radius 4294967295",
+    ] {
+        of_h(&format!("near h {asked}")).fails(1, &message);
+        of_h(&format!("plot h {asked} -o new")).fails(1, &message);
+        let json = of_h(&format!("near --json h {asked}"));
+        assert_eq!((json.status, json.err), (Some(1), format!("{message}\n")));
+        let told = format!("{{\"file\":\"h\",\"refused\":16,\"sentence\":\"{BAD_POINT}\"}}\n");
+        assert_eq!(String::from_utf8_lossy(&json.out), told);
+    }
+    let most = of_h("near h --point -16000 16000 --radius 32000");
+    assert_eq!(most.status, Some(0), "{}", most.err);
 }
 
 #[test]

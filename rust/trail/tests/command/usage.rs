@@ -8,8 +8,8 @@ use trails_tests::cases::Random;
 
 use crate::folder::{trail_h, trail_h_at_12, Folder, Ran, AGED_H, AGE_H, PROGRAM};
 
-const NAMES: [&str; 9] = [
-    "list", "check", "write", "age", "table", "place", "cross", "replay", "plot",
+const NAMES: [&str; 10] = [
+    "list", "check", "write", "age", "table", "place", "cross", "near", "replay", "plot",
 ];
 
 #[test]
@@ -31,7 +31,7 @@ fn help_is_printed_for_the_command_and_each_of_its_commands() {
 }
 
 /// Words that no command takes. There is a trail `h`.
-const WRONG: [&str; 56] = [
+const WRONG: [&str; 64] = [
     "",
     "lists h",
     "list",
@@ -82,12 +82,20 @@ const WRONG: [&str; 56] = [
     "cross h --box 0 1 0 1.5 --window 0 1",
     "cross h --box 0 1 0 2147483648 --window 0 1",
     "cross h --box 0 1 0 1 --window -1 1",
+    "near h --point 0 1",
+    "near h --radius 5",
+    "near h --point 0 --radius 5",
+    "near h --point 0 1 --radius -1",
+    "near h --point 0 1 --radius 4294967296",
+    "near h --point 0 1 --radius 5 --window 0 1",
     "replay h",
     "replay - -",
     "plot h",
     "plot h -o t --json",
     "plot -o t - --original -",
     "plot h -o t --box 1 2 3",
+    "plot h -o t --point 1 2",
+    "plot h -o t --radius 5",
 ];
 
 #[test]
@@ -144,11 +152,12 @@ fn texts_above_8_mib_are_turned_away() {
 }
 
 /// Commands that print an answer, on `h`. The last one changes it.
-const ANSWERS: [&str; 9] = [
+const ANSWERS: [&str; 10] = [
     "list h",
     "check h h",
     "place h 5 --json",
     "place h 31 --json",
+    "near h --point 0 1 --radius 2",
     "age --tolerance 12 h -o -",
     "plot h -o -",
     "table",
@@ -198,7 +207,7 @@ fn a_reader_that_hangs_up_is_told() {
 }
 
 /// Wrong words, and what the message has before it names the help.
-const WRONG_VALUES: [(&str, &str); 22] = [
+const WRONG_VALUES: [(&str, &str); 28] = [
     (
         "cross h --window 0 1 --box 0 1 0",
         "--box takes X0 X1 Y0 Y1, and Y1 is missing",
@@ -234,6 +243,25 @@ const WRONG_VALUES: [(&str, &str); 22] = [
     (
         "cross h --box 0 1 0 1 --window 0 -1",
         "--window, E: '-1' isn't a whole number from 0 to 4,294,967,295",
+    ),
+    (
+        "near --point 0 h --radius 5",
+        "--point takes X Y, and Y is missing",
+    ),
+    ("near h --radius 5", "--point X Y is missing"),
+    ("near h --point 0 1", "--radius R is missing"),
+    (
+        "near h --point 0 1.5 --radius 5",
+        "--point, Y: '1.5' isn't a whole number from -16,000 to 16,000 \
+         (in millimetres -160,000 to 160,000)",
+    ),
+    (
+        "near h --point 0 1 --radius -1",
+        "--radius, R: '-1' isn't a whole number from 0 to 32,000 (in millimetres 320,000)",
+    ),
+    (
+        "plot h -o t --point 0 1",
+        "--point X Y and --radius R go together",
     ),
     (
         "age --tolerance 65536 h",
