@@ -35,8 +35,8 @@ pub record NearFits (a b : Fix) (c : Point) (r : ℕ) : Type 0 where
 
 -- no difference of two such is longer than this
 pub record Short (v : Vector) : Type 0 where
-  pub x-low : natAbs (v .x) ≤ longest
-  pub y-low : natAbs (v .y) ≤ longest
+  pub x-short : natAbs (v .x) ≤ longest
+  pub y-short : natAbs (v .y) ≤ longest
 
 abbrev of : (z : ℤ) {n : ℕ} → natAbs z ≤ n → Bound z
 of z {n} h = record { top = n; holds = h }
@@ -45,14 +45,14 @@ between : (i j : ℤ) → natAbs i ≤ widest → natAbs j ≤ widest → natAbs
 between i j h k = (of j k ⊝ of i h) .holds
 
 module _ {a b : Fix} {c : Point} {r : ℕ} (f : NearFits a b c r) where
-  pub low-start : Short (toward a c)
-  low-start = record { x-low = between (a .x) (c .x) (f .ax) (f .asked .cx); y-low = between (a .y) (c .y) (f .ay) (f .asked .cy) }
+  pub short-start : Short (toward a c)
+  short-start = record { x-short = between (a .x) (c .x) (f .ax) (f .asked .cx); y-short = between (a .y) (c .y) (f .ay) (f .asked .cy) }
 
-  pub low-end : Short (toward b c)
-  low-end = record { x-low = between (b .x) (c .x) (f .bx) (f .asked .cx); y-low = between (b .y) (c .y) (f .by) (f .asked .cy) }
+  pub short-end : Short (toward b c)
+  short-end = record { x-short = between (b .x) (c .x) (f .bx) (f .asked .cx); y-short = between (b .y) (c .y) (f .by) (f .asked .cy) }
 
-  pub low-leg : Short (along a b)
-  low-leg = record { x-low = between (a .x) (b .x) (f .ax) (f .bx); y-low = between (a .y) (b .y) (f .ay) (f .by) }
+  pub short-leg : Short (along a b)
+  short-leg = record { x-short = between (a .x) (b .x) (f .ax) (f .bx); y-short = between (a .y) (b .y) (f .ay) (f .by) }
 
 -- ---- from one coordinate to another, of whatever 32 bits say
 pub record AxisFits (i j : ℤ) : Type 0 where
@@ -85,15 +85,15 @@ pub record ProductsFit (v w : Vector) : Type 0 where
 
 pub products-fit : {v w : Vector} → Short v → Short w → ProductsFit v w
 products-fit {v} {w} h k =
-    let xx = of (v .x) (h .x-low) ⊛ of (w .x) (k .x-low) in
-    let yy = of (v .y) (h .y-low) ⊛ of (w .y) (k .y-low) in
-    let xy = of (v .x) (h .x-low) ⊛ of (w .y) (k .y-low) in
-    let yx = of (v .y) (h .y-low) ⊛ of (w .x) (k .x-low) in
+    let xx = of (v .x) (h .x-short) ⊛ of (w .x) (k .x-short) in
+    let yy = of (v .y) (h .y-short) ⊛ of (w .y) (k .y-short) in
+    let xy = of (v .x) (h .x-short) ⊛ of (w .y) (k .y-short) in
+    let yx = of (v .y) (h .y-short) ⊛ of (w .x) (k .x-short) in
     record {
-      vx = fits w64 (of (v .x) (h .x-low)) tt;
-      vy = fits w64 (of (v .y) (h .y-low)) tt;
-      wx = fits w64 (of (w .x) (k .x-low)) tt;
-      wy = fits w64 (of (w .y) (k .y-low)) tt;
+      vx = fits w64 (of (v .x) (h .x-short)) tt;
+      vy = fits w64 (of (v .y) (h .y-short)) tt;
+      wx = fits w64 (of (w .x) (k .x-short)) tt;
+      wy = fits w64 (of (w .y) (k .y-short)) tt;
       xx = fits w64 xx tt;
       yy = fits w64 yy tt;
       xy = fits w64 xy tt;
@@ -106,4 +106,4 @@ products-fit {v} {w} h k =
 
 -- the square of a length
 pub length-squared-low : {v : Vector} → Short v → length-squared v ≤ greatest-square
-length-squared-low {v} h = omega (arith, mul-le-mul {n₁ = natAbs (v .x)} {m₁ = natAbs (v .x)} {n₂ = longest} {m₂ = longest} (h .x-low) (h .x-low), mul-le-mul {n₁ = natAbs (v .y)} {m₁ = natAbs (v .y)} {n₂ = longest} {m₂ = longest} (h .y-low) (h .y-low))
+length-squared-low {v} h = omega (arith, mul-le-mul {n₁ = natAbs (v .x)} {m₁ = natAbs (v .x)} {n₂ = longest} {m₂ = longest} (h .x-short) (h .x-short), mul-le-mul {n₁ = natAbs (v .y)} {m₁ = natAbs (v .y)} {n₂ = longest} {m₂ = longest} (h .y-short) (h .y-short))

@@ -20,7 +20,7 @@ use Rattle.record.specs.Laws.Trail.{from, from-next, from-end, Walk, walk-start
 use Rattle.approach.specs.declared.Part.{Part}
 use Rattle.approach.specs.Approach.{toward, along, length-squared, dot, start-part, end-part, heard-part, silent-part, closest-part, leg-near, told-on, near-from}
 use Rattle.approach.specs.Laws.Parts.{leg-closest, NearPart, is-near, is-far, near-part-says}
-use Rattle.approach.specs.Laws.Ranges.{greatest-square, PointFits, NearFits, low-leg, length-squared-low}
+use Rattle.approach.specs.Laws.Ranges.{greatest-square, PointFits, NearFits, short-leg, length-squared-low}
 
 -- ---- what the time of a part needs of its numbers
 pub record ToldFits (first leg : ℕ) (a b : Fix) (s : Part) : Type 0 where
@@ -50,7 +50,7 @@ part-low {a} {b} {c} f = go (silent a)
 
     go : (t : Bool) → (cond t (silent-part a b c) (heard-part a b c)) .den ≤ greatest-square
     go true = either (leb (length-squared (toward a c)) (length-squared (toward b c))) start-part end-part one one
-    go false = either (leZ (dot (toward a c) (along a b)) (pos 0)) start-part (cond past end-part foot) one (either past end-part foot one (length-squared-low (low-leg f)))
+    go false = either (leZ (dot (toward a c) (along a b)) (pos 0)) start-part (cond past end-part foot) one (either past end-part foot one (length-squared-low (short-leg f)))
 
 -- a part that is told
 pub part-fits : {a b : Fix} {c : Point} {r : ℕ} (s : Part) → NearFits a b c r → leg-near a b c r ≡ some s → (s .den ≤ greatest-square) × (s .num ≤ s .den)

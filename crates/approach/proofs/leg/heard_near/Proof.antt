@@ -10,17 +10,17 @@ use mir.Facts.{toZ-ofZ}
 use Rattle.distance.specs.Fix.{fixOf}
 use Rattle.approach.specs.Answers.{pointOf}
 use Rattle.approach.specs.Approach.{toward, along, dot}
-use Rattle.approach.specs.Laws.Ranges.{Short, low-start, low-end, low-leg, products-fit}
+use Rattle.approach.specs.Laws.Ranges.{Short, short-start, short-end, short-leg, products-fit}
 use Rattle.approach.specs.Laws.Tests.{positive, heard-start, heard-end, heard-foot}
 use borrow.Author.Needs.{needs}
 use Rattle.approach.proofs.leg.heard_near.Statement.{statement}
 use Rattle.approach.proofs.leg.heard_near.Tie as tie
 
 start-low : (c : tie.After-toward) → Short (c .toward .result)
-start-low c = rw (c .toward .ensures) (low-start (c .before .pre))
+start-low c = rw (c .toward .ensures) (short-start (c .before .pre))
 
 leg-low : (c : tie.After-along) → Short (c .along .result)
-leg-low c = rw (c .along .ensures) (low-leg (c .before .before .pre))
+leg-low c = rw (c .along .ensures) (short-leg (c .before .before .pre))
 
 -- the product, as the code has it
 abbrev foot : tie.Start → ℤ
@@ -57,7 +57,7 @@ natural c = let s = c .before .before .before .before in positive (fixOf (s .arg
 cast-num : tie.Need-cast-num
 cast-num c =
     let s = c .before .before .before .before in
-    let k = products-fit (low-start (s .pre)) (low-leg (s .pre)) in
+    let k = products-fit (short-start (s .pre)) (short-leg (s .pre)) in
     rw (foot-is (c .before)) (subst (λ (z : ℤ). T (nonNeg z)) (natural c) tt, record { fits = omega (arith, k .dot-low) })
 
 length-squared-requires : tie.Need-length-squared-requires
@@ -67,7 +67,7 @@ toward-requires-2 : tie.Need-toward-requires-2
 toward-requires-2 c κs = search needs
 
 end-near-requires-2 : tie.Need-end-near-requires-2
-end-near-requires-2 c κs = let s = c .before .before .before .before .before .before .before in (rw (c .toward2 .ensures) (low-end (s .pre)), s .pre .asked .near-enough)
+end-near-requires-2 c κs = let s = c .before .before .before .before .before .before .before in (rw (c .toward2 .ensures) (short-end (s .pre)), s .pre .asked .near-enough)
 
 returns-2 : tie.Need-returns-2
 returns-2 c =

@@ -30,12 +30,12 @@ y-is c = let s = c .before .before .before .before .before .before .before in c 
 x-reach : (c : tie.After-magnitude2) → c .before .before .before .before .before .args .r .0 * c .magnitude2 .result ≤ 102400000000
 x-reach c =
     let s = c .before .before .before .before .before in
-    mul-le-mul {n₁ = s .args .r .0} {m₁ = c .magnitude2 .result} {n₂ = 320000} {m₂ = 320000} (s .pre .2) (rw (x-is c) (s .pre .1 .x-low))
+    mul-le-mul {n₁ = s .args .r .0} {m₁ = c .magnitude2 .result} {n₂ = 320000} {m₂ = 320000} (s .pre .2) (rw (x-is c) (s .pre .1 .x-short))
 
 y-reach : (c : tie.After-magnitude3) → c .before .before .before .before .before .before .before .args .r .0 * c .magnitude3 .result ≤ 102400000000
 y-reach c =
     let s = c .before .before .before .before .before .before .before in
-    mul-le-mul {n₁ = s .args .r .0} {m₁ = c .magnitude3 .result} {n₂ = 320000} {m₂ = 320000} (s .pre .2) (rw (y-is c) (s .pre .1 .y-low))
+    mul-le-mul {n₁ = s .args .r .0} {m₁ = c .magnitude3 .result} {n₂ = 320000} {m₂ = 320000} (s .pre .2) (rw (y-is c) (s .pre .1 .y-short))
 
 cast-reach : tie.Need-cast-reach
 cast-reach c = search needs
@@ -49,13 +49,13 @@ magnitude-requires c κs =
     rw (toZ-ofZ {w = w64} {z = c .cross-product .result} (record { sfits = c .cross-product .ok }) ∙ c .cross-product .ensures) (omega (arith, k .cross-product-low))
 
 magnitude-requires-2 : tie.Need-magnitude-requires-2
-magnitude-requires-2 c κs = let s = c .before .before .before .before in rw (toZ-ofZ {w = w64} {z = s .args .m .x} (ranges s .wx)) (omega (arith, s .pre .1 .x-low))
+magnitude-requires-2 c κs = let s = c .before .before .before .before in rw (toZ-ofZ {w = w64} {z = s .args .m .x} (ranges s .wx)) (omega (arith, s .pre .1 .x-short))
 
 mul-square-at-most : tie.Need-mul-square-at-most
 mul-square-at-most c = omega (arith, x-reach c)
 
 magnitude-requires-3 : tie.Need-magnitude-requires-3
-magnitude-requires-3 c κs = let s = c .before .before .before .before .before .before in rw (toZ-ofZ {w = w64} {z = s .args .m .y} (ranges s .wy)) (omega (arith, s .pre .1 .y-low))
+magnitude-requires-3 c κs = let s = c .before .before .before .before .before .before in rw (toZ-ofZ {w = w64} {z = s .args .m .y} (ranges s .wy)) (omega (arith, s .pre .1 .y-short))
 
 mul-square-at-most-2 : tie.Need-mul-square-at-most-2
 mul-square-at-most-2 c = omega (arith, y-reach c)

@@ -7,7 +7,7 @@ use Rattle.approach.proofs.leg.length_squared.Statement.{statement}
 use Rattle.approach.proofs.leg.length_squared.Tie as tie
 
 ranges : (s : tie.Start) → SquaresFit (s .args .v .x) (s .args .v .y)
-ranges s = squares-fit (omega (arith, s .pre .x-low)) (omega (arith, s .pre .y-low))
+ranges s = squares-fit (omega (arith, s .pre .x-short)) (omega (arith, s .pre .y-short))
 
 mul-result : tie.Need-mul-result
 mul-result c = let k = ranges (c .before .before) in search needs

@@ -1,7 +1,7 @@
 use mathlib.Core.Path.{sym, _∙_}
 use Rattle.distance.specs.Fix.{fixOf}
 use Rattle.approach.specs.Answers.{pointOf}
-use Rattle.approach.specs.Laws.Ranges.{Short, low-start, low-end}
+use Rattle.approach.specs.Laws.Ranges.{Short, short-start, short-end}
 use Rattle.approach.specs.Laws.Tests.{silent-start, silent-end}
 use borrow.Author.Needs.{needs}
 use Rattle.approach.proofs.leg.silent_near.Statement.{statement}
@@ -9,10 +9,10 @@ use Rattle.approach.proofs.leg.silent_near.Tie as tie
 
 -- the two vectors are low
 first-low : (c : tie.After-toward) → Short (c .toward .result)
-first-low c = rw (c .toward .ensures) (low-start (c .before .pre))
+first-low c = rw (c .toward .ensures) (short-start (c .before .pre))
 
 last-low : (c : tie.After-toward2) → Short (c .toward2 .result)
-last-low c = rw (c .toward2 .ensures) (low-end (c .before .before .pre))
+last-low c = rw (c .toward2 .ensures) (short-end (c .before .before .pre))
 
 toward-requires : tie.Need-toward-requires
 toward-requires c κs = search needs
