@@ -208,31 +208,51 @@ fn beside() {
     placed(b"k mirrored", image, 3, 0);
 }
 
-// Document 02, item 8: trails c and h times ten at ten times the tolerance, two whose sums of squares take two words, and the limits of tolerances and places.
-fn millimetres() {
-    let kind = Kind::MillimetreTrail;
-    let c = record_of(kind, &[0, 10, 20], &[0, 300, 0], &[0, 400, 0]);
-    let h = record_of(kind, &[0, 10, 20, 30], &[0, 200, 200, 0], &[0, 0, 0, 0]);
-    aged(b"c times ten", c, &[500]);
-    aged(b"c times ten", c, &[499]);
+fn c_times_ten() -> [u8; 64] {
+    record_of(
+        Kind::MillimetreTrail,
+        &[0, 10, 20],
+        &[0, 300, 0],
+        &[0, 400, 0],
+    )
+}
+
+// Document 02, item 8: trails c and h times ten at ten times the tolerance, ..
+fn times_ten() {
+    aged(b"c times ten", c_times_ten(), &[500]);
+    aged(b"c times ten", c_times_ten(), &[499]);
+    let h = record_of(
+        Kind::MillimetreTrail,
+        &[0, 10, 20, 30],
+        &[0, 200, 200, 0],
+        &[0, 0, 0, 0],
+    );
     aged(b"h times ten", h, &[120]);
     aged(b"h times ten", h, &[250, 120]);
+}
+
+// .. two whose sums of squares take two words, ..
+fn two_words() {
     let corners = record_of(
-        kind,
+        Kind::MillimetreTrail,
         &[0, 1, 65535],
         &[-160000, 160000, -160000],
         &[160000, -160000, 160000],
     );
     aged(b"corners", corners, &[60000]);
     let words = record_of(
-        kind,
+        Kind::MillimetreTrail,
         &[0, 1, 2, 65535],
         &[0, 159983, 160000, 0],
         &[0, 0, 0, 0],
     );
     aged(b"words apart", words, &[60000]);
-    aged(b"tolerance", c, &[60000]);
-    aged(b"tolerance", c, &[60001]);
+}
+
+// .. and the limits of tolerances and places.
+fn limits_in_millimetres() {
+    aged(b"tolerance", c_times_ten(), &[60000]);
+    aged(b"tolerance", c_times_ten(), &[60001]);
     placed_at(b"place", 160000);
     placed_at(b"place", 160001);
 }
@@ -249,7 +269,9 @@ fn main() {
     printing::word(b"\n");
     beside();
     printing::word(b"\nDocument 02, item 8, in millimetres:\n");
-    millimetres();
+    times_ten();
+    two_words();
+    limits_in_millimetres();
     printing::word(b"\nDocument 02, item 5, with silences:\n");
     silences::rows();
 }
