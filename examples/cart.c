@@ -1,6 +1,6 @@
 /* One cart's trail from C: written, listed, aged over some days, by the built-in table
- * and by a hall's own, and asked about; the same with a silence in it; and the same in
- * millimetres.
+ * and by a hall's own, and asked about; the same with a silence in it; the same in
+ * millimetres; and a cart that an anchor in the ceiling sees.
  *
  *   rt staticlib export
  *   cc -I include examples/cart.c target/staticlib/libexport.a -o cart && ./cart
@@ -176,6 +176,35 @@ static void in_millimetres(void) {
     list();
 }
 
+/* Takes what an anchor has sent, and prints the place that a fix would have. The state is
+ * for the next reading; a refused one leaves it as it was. */
+static struct trails_anchor_state sent(const char *what, struct trails_anchored a) {
+    if (a.refusal != TRAILS_ACCEPTED)
+        printf("%s: refused %u\n", what, (unsigned)a.refusal);
+    else
+        printf("%s: %.4f, %.4f, so about %d, %d cm\n", what, a.state.x, a.state.y, (int)a.x,
+               (int)a.y);
+    return a.state;
+}
+
+/* An anchor sends a place, and then how far the cart went, in centimetres: whole numbers of
+ * sixteenths. */
+static void anchored(void) {
+    const uint8_t steps[] = {0, 1, 1};
+    const float by_x[] = {185.5f, -0.0625f, 0.1f}, by_y[] = {360.0f, 0.5f, 0.0f};
+    struct trails_anchor_state state = {0, 0, 0};
+    state = sent("a step from nowhere", trails_anchor_step(state, 1, 1));
+    state = sent("a place", trails_anchor_absolute(state, 185.5f, 360));
+    state = sent("a step", trails_anchor_step(state, -0.0625f, 0.5f));
+    state = sent("no sixteenths", trails_anchor_step(state, 0.1f, 0));
+    state = sent("through a wall", trails_anchor_step(state, 0, 15640));
+    sent("a step back", trails_anchor_step(state, 0.0625f, -0.5f));
+
+    /* the place, the step and the one that is refused for its value, at once */
+    state = trails_anchor_all(state, steps, 3, by_x, 3, by_y, 3);
+    printf("three at once: %.4f, %.4f\n", state.x, state.y);
+}
+
 int main(void) {
     const uint64_t calls[] = {12, 32001, TRAILS_BY_TABLE(0, 7), TRAILS_BY_TABLE(1, 14)};
     struct trails_answer written =
@@ -209,5 +238,6 @@ int main(void) {
 
     with_silences();
     in_millimetres();
+    anchored();
     return 0;
 }

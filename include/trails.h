@@ -74,13 +74,33 @@
  * Whoever made it, each call that takes one checks it as loading does, and looks at no
  * row past its count.
  *
+ * ANCHORS. An anchor in the ceiling sends where a cart is, or how far it went from the
+ * last place, in two floats of 32 bits and in centimetres. What is known of its cart
+ * between two readings is its state: the last place, and whether there is one. It begins
+ * with no place, {0, 0, 0}, and is handed over by value: each reading is given the state
+ * that the one before left, and nobody else keeps it. Values are whole numbers of
+ * sixteenths, and places are from -16,000 to 16,000, so that every sum is exact: after any
+ * readings, from whatever state, of which one was an accepted absolute place, the state is
+ * the last such place and the steps accepted since added up in sixteenths, with nothing
+ * lost. A refused reading changes no state. An accepted one also gives the place rounded
+ * to whole centimetres, as trails_write takes it, halves away from 0 as in trails_place.
+ * Any bits are a state, and any are a reading:
+ *   - -0.0 is 0, and an accepted absolute place is kept as it was sent, -0.0 too;
+ *   - every finite value of 524,288 or more, on either side of 0, is a whole number of
+ *     sixteenths, so it meets 19, or of a step maybe 18 before that, and not 17;
+ *   - a refused reading gives back the state as it was. Of a NaN that is in it the proof
+ *     says no more than that it is one, since its language has a single NaN; the functions
+ *     only copy it, and in tests its bits come back. To see or to store the bits of a
+ *     float, memcpy it to a uint32_t.
+ *
  * REFUSALS. A refusal is one of the numbers below, and 0 is none. A call makes
  * those checks that its description names, in the order in which they stand below,
  * which isn't that of their numbers: 20, 22, 23 and 16 come directly after 9, and 21 after
  * 12. Each is made over the whole record, or the whole table, before the next, and the
  * first that fails is the answer. A refused call leaves all buffers as they were. The
  * limits are those of the record's kind, or of the kind that is written; 20 and 21 turn
- * away nothing of kinds 1 and 2, and a table's limits are the same for every kind.
+ * away nothing of kinds 1 and 2, and a table's limits are the same for every kind. 17, 18
+ * and 19 are an anchor's, and no call on a record makes them.
  */
 #ifndef TRAILS_H
 #define TRAILS_H
@@ -113,7 +133,10 @@ enum {
     TRAILS_IN_SILENCE = 21,      /* the moment is strictly inside a silence */
     TRAILS_BAD_WINDOW = 13,      /* it ends before it starts, or not all is in the trail's times */
     TRAILS_BAD_BOX = 14,         /* an edge is beyond its limits, or low above high */
-    TRAILS_SHORT_OUTPUT = 15     /* the output has fewer bytes than the record */
+    TRAILS_SHORT_OUTPUT = 15,    /* the output has fewer bytes than the record */
+    TRAILS_BAD_READING = 17,     /* a value isn't finite, or isn't a whole number of sixteenths */
+    TRAILS_BAD_STATE = 18,       /* a step from no place, or from one that 17 or 19 would turn away */
+    TRAILS_BAD_NEW_PLACE = 19    /* the new place is outside -16,000 to 16,000 */
 };
 
 /* The kinds. */
@@ -257,6 +280,23 @@ struct trails_approach {
     uint32_t leg;
     uint64_t numerator;
     uint64_t denominator;
+};
+
+/* An anchor's state: the last place, in centimetres, and whether there is one. */
+struct trails_anchor_state {
+    float x;
+    float y;
+    uint32_t seen; /* 0 if there is no place yet, and anything else if there is one */
+};
+
+/* What became of a reading. Where refusal is 0, x and y are the new place rounded to whole
+ * centimetres, halves away from 0, and state is the new one, whose seen is 1. Else x and y
+ * are 0, and state is the very one that was handed in, its seen too, whatever number. */
+struct trails_anchored {
+    uint32_t refusal;
+    int32_t x;
+    int32_t y;
+    struct trails_anchor_state state;
 };
 
 /* Whether the lent bytes begin with a record. Makes checks 1 to 9 and 20; where
@@ -449,6 +489,24 @@ struct trails_approach trails_near_after(uint8_t *record, size_t lent,
                                          const uint64_t *calls, size_t call_count,
                                          const uint16_t *tables, size_t table_numbers,
                                          int32_t x, int32_t y, uint32_t radius);
+
+/* Takes an absolute place that an anchor has sent, whatever the state. Makes checks 17 and
+ * 19. Where none fails, the new state has x and y, bit for bit. */
+struct trails_anchored trails_anchor_absolute(struct trails_anchor_state state, float x, float y);
+
+/* Takes a step that an anchor has sent, from the state's place. Makes checks 17, 18 and 19.
+ * Where none fails, the new state has state.x + dx and state.y + dy, which are exact. */
+struct trails_anchored trails_anchor_step(struct trails_anchor_state state, float dx, float dy);
+
+/* Takes a list of readings, each with the state that the one before left: reading k is
+ * trails_anchor_absolute of x[k] and y[k] where step[k] is 0, and else trails_anchor_step.
+ * The list is as long as the shortest of the three columns. Those that are turned away
+ * change nothing, and those after them are taken. The answer is the state after all, whose
+ * seen is 1 or 0. */
+struct trails_anchor_state trails_anchor_all(struct trails_anchor_state state,
+                                             const uint8_t *step, size_t step_count,
+                                             const float *x, size_t x_count,
+                                             const float *y, size_t y_count);
 
 #ifdef __cplusplus
 }

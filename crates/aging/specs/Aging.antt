@@ -35,6 +35,7 @@ with-tolerance e = record {
   table = nothing .table;
   point = nothing .point;
   radius = nothing .radius;
+  report = nothing .report;
 }
 
 abbrev pub age-refusal : List ℕ → (e : ℕ) → Option ℕ

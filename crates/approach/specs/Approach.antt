@@ -142,6 +142,7 @@ asked-near c r = record {
   table = nothing .table;
   point = c;
   radius = r;
+  report = nothing .report;
 }
 
 -- On lent bytes: 1 to 9, 20 and 16.

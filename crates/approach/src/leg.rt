@@ -1,11 +1,11 @@
 // One leg: where on it the cart is closest to the point, and whether that is within the radius.
 use crate::Nearing;
 use crate::Part;
-use crate::Point;
 use crate::Radius;
 use crate::Vector;
 use distance::Coordinate;
 use distance::Fix;
+use distance::Point;
 use distance::magnitude;
 use distance::silent;
 use distance::words::square_at_most;
@@ -13,8 +13,9 @@ ghost use mathlib.Core.Path.{_≡_};
 ghost use Prim.Native.Nat.{_≤_};
 ghost use lib.IntN.{_-ℤ_};
 ghost use Rattle.distance.specs.Fix.{fixOf};
+ghost use Rattle.distance.specs.Place.{pointOf};
 ghost use Rattle.approach.specs.Approach.{toward, along, length-squared, dot, heard-part, silent-part, near-part, leg-near};
-ghost use Rattle.approach.specs.Answers.{pointOf, nearing};
+ghost use Rattle.approach.specs.Answers.{nearing};
 ghost use Rattle.approach.specs.Laws.Tests.{cross-product, near-end, near-inside};
 ghost use Rattle.approach.specs.Laws.Ranges.{longest, Short, NearFits};
 

@@ -2,16 +2,9 @@
 mod leg;
 mod trail;
 
-use distance::Coordinate;
 pub use trail::near;
 pub use trail::near_asked;
 pub use trail::near_says;
-
-// The point that is asked for, in the unit of the record.
-pub struct Point {
-    pub x: Coordinate,
-    pub y: Coordinate,
-}
 
 // How far from the point still counts as near, in the unit of the record. In millimetres it may be up to 320,000, more than a `Tolerance` holds.
 pub struct Radius(pub u32);

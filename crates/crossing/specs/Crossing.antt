@@ -86,6 +86,7 @@ asked-crossing s e box = record {
   table = nothing .table;
   point = nothing .point;
   radius = nothing .radius;
+  report = nothing .report;
 }
 
 -- On lent bytes: "the crossing 1 to 9, 13, 14", and 20 after 9.

@@ -26,6 +26,12 @@ pub struct Coordinate(pub i32);
 // A length that isn't negative, in the record's unit: how far a dropped fix may be from its chord.
 pub struct Tolerance(pub u16);
 
+// A point of the plane, in whole numbers of a unit: one that is asked about, or a place rounded.
+pub struct Point {
+    pub x: Coordinate,
+    pub y: Coordinate,
+}
+
 // What follows a fix: 1 is a silence, and 0 none. A record's byte may say anything; check 20 turns the rest away.
 pub struct Silence(pub u8);
 

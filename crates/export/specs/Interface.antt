@@ -1,11 +1,14 @@
 -- THE INTERFACE'S NUMBERS: what the layers' definitions give, as programs in other languages get it. A refusal is its number, and 0 is none.
 -- `declared.X` is the struct X of the code.
 use mathlib.Core.Path.{_≡_}
+use mathlib.Core.Bool.{not, cond}
 use mathlib.Core.List.{List, []}
 use mathlib.Core.Option.{Option, some, none}
 use Prim.Native.Nat.{ℕ}
+use lib.Dec.{eqb}
 use lib.IntN.{pos, natAbs}
 use Rattle.distance.specs.Fix.{Fix}
+use Rattle.distance.specs.Place.{Point}
 use Rattle.format.specs.Format.{kind-field, count-field, mark-field}
 use Rattle.record.specs.Checks.{Row, read-refusal, load-refusal}
 use Rattle.record.specs.Answers.{Answer, gives, turns-away, answer, unless}
@@ -14,6 +17,9 @@ use Rattle.table.specs.Answers.{tableOf, ClearedAfter}
 use Rattle.moment.specs.Moment.{Standing}
 use Rattle.legs.specs.declared.Fraction.{Fraction}
 use Rattle.approach.specs.declared.Approach.{Approach}
+use Rattle.anchors.specs.declared.State.{State}
+use Rattle.anchors.specs.declared.Reading.{Reading}
+use Rattle.anchors.specs.Anchors.{anchor-answer, state-after}
 use Rattle.export.specs.declared.Head.{Head}
 use Rattle.export.specs.declared.Step.{Step}
 use Rattle.export.specs.declared.Answer.{Answer as Numbers}
@@ -23,6 +29,8 @@ use Rattle.export.specs.declared.Run.{Run}
 use Rattle.export.specs.declared.Spot.{Spot}
 use Rattle.export.specs.declared.Crossing.{Crossing}
 use Rattle.export.specs.declared.Approach.{Approach as ApproachNumbers}
+use Rattle.export.specs.declared.AnchorState.{AnchorState}
+use Rattle.export.specs.declared.Anchored.{Anchored}
 
 -- A record's kind, count and mark, unless it is turned away.
 abbrev pub checked-numbers : Option ℕ → List ℕ → Head
@@ -83,3 +91,18 @@ abbrev pub approach-numbers : Answer (Option Approach) → ApproachNumbers
 approach-numbers (gives (some A)) = record { refusal = 0; approaches = 1; leg = A .leg; numerator = A .num; denominator = A .den }
 approach-numbers (gives none) = record { refusal = 0; approaches = 0; leg = 0; numerator = 0; denominator = 0 }
 approach-numbers (turns-away k) = record { refusal = k; approaches = 0; leg = 0; numerator = 0; denominator = 0 }
+
+-- An anchor's state: every number but 0 says that the flag is on, and 1 is what says so afterwards.
+abbrev pub stateOf : AnchorState → State
+stateOf s = record { x = s .x; y = s .y; seen = not (eqb (s .seen) 0) }
+
+abbrev pub state-numbers : State → AnchorState
+state-numbers s = record { x = s .x; y = s .y; seen = cond (s .seen) 1 0 }
+
+-- The rounded place and the new state, or the refusal and the very state that was handed in.
+abbrev pub anchored-numbers : (handed : AnchorState) → Answer Point → (left : State) → Anchored
+anchored-numbers h (gives P) s = record { refusal = 0; x = P .x; y = P .y; state = state-numbers s }
+anchored-numbers h (turns-away k) s = record { refusal = k; x = pos 0; y = pos 0; state = h }
+
+abbrev pub read-numbers : AnchorState → Reading → Anchored
+read-numbers h r = anchored-numbers h (anchor-answer (stateOf h) r) (state-after (stateOf h) r)

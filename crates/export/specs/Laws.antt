@@ -10,7 +10,7 @@ use lib.IntN.{ℤ, pos}
 use Rattle.distance.specs.Fix.{Fix}
 use Rattle.format.specs.Kinds.{Kind}
 use Rattle.format.specs.Format.{kind-field, count-field, mark-field, of-head}
-use Rattle.record.specs.Checks.{Check, few-bytes, other-kind, bad-count, bad-length, short-record, bad-mark, misplaced, unordered, long-span, high-tolerance, bad-thousandths, bad-moment, bad-window, bad-box, short-output, bad-silence, moment-in-silence, bad-row-count, bad-rows, bad-point, Row, number, first, FirstHolds, this, not-before, refusal-of, placing, crossing as crosses, approaching, read-refusal, load-refusal}
+use Rattle.record.specs.Checks.{Check, few-bytes, other-kind, bad-count, bad-length, short-record, bad-mark, misplaced, unordered, long-span, high-tolerance, bad-thousandths, bad-moment, bad-window, bad-box, short-output, bad-silence, moment-in-silence, bad-row-count, bad-rows, bad-point, bad-reading, bad-state, bad-new-place, Row, number, first, FirstHolds, this, not-before, refusal-of, placing, crossing as crosses, approaching, read-refusal, load-refusal, anchor-refusal}
 use Rattle.record.specs.Answers.{Answer, gives, turns-away, answer as told, unless}
 use Rattle.record.specs.Examples.{row}
 use Rattle.table.specs.Answers.{row-at, tableOf}
@@ -31,11 +31,21 @@ use Rattle.moment.specs.declared.Spot.{Spot}
 use Rattle.moment.specs.declared.Placed.{Placed}
 use Rattle.moment.specs.declared.Placed.the-variants as Place
 use Rattle.moment.specs.Answers.{placed}
+use Rattle.distance.specs.declared.Point.{Point as CodePoint}
+use Rattle.anchors.specs.declared.State.{State}
+use Rattle.anchors.specs.declared.Reading.{Reading}
+use Rattle.anchors.specs.declared.Anchored.{Anchored as CodeAnchored}
+use Rattle.anchors.specs.declared.Anchored.the-variants as Said
+use Rattle.anchors.specs.Anchors.{report, anchor-answer, state-after, NothingLost}
+use Rattle.anchors.specs.Claim.{after-all, AnchorClaim}
+use Rattle.anchors.specs.Answers.{answered, state-left}
+use Rattle.export.specs.declared.AnchorState.{AnchorState}
+use Rattle.export.specs.declared.Anchored.{Anchored}
 use Rattle.export.specs.declared.Head.{Head}
 use Rattle.export.specs.declared.Loaded.{Loaded}
 use Rattle.export.specs.declared.Step.{Step}
 use Rattle.export.specs.declared.Spot.{Spot as Numbers}
-use Rattle.export.specs.Interface.{checked-numbers, head-numbers, yield-answer, step-numbers, value-numbers, refusal-number, LoadNumbers, applied-numbers, run-numbers, spot-numbers, crossing-numbers, approach-numbers}
+use Rattle.export.specs.Interface.{checked-numbers, head-numbers, yield-answer, step-numbers, value-numbers, refusal-number, LoadNumbers, applied-numbers, run-numbers, spot-numbers, crossing-numbers, approach-numbers, stateOf, state-numbers, anchored-numbers, read-numbers}
 
 -- ---- 0 is none
 numbered : (c : Check) → 1 ≤ number c
@@ -59,6 +69,9 @@ numbered moment-in-silence = omega arith
 numbered bad-row-count = omega arith
 numbered bad-rows = omega arith
 numbered bad-point = omega arith
+numbered bad-reading = omega arith
+numbered bad-state = omega arith
+numbered bad-new-place = omega arith
 
 holds-numbered : {says : Check → Bool} {k : ℕ} {l : List Check} → FirstHolds says k l → 1 ≤ k
 holds-numbered (this {c} h e) = let p = numbered c in omega arith
@@ -179,3 +192,25 @@ same-box h k m n = rw (h, k, m, n) refl
 
 pub same-point : {x y a b : ℤ} → x ≡ a → y ≡ b → point-at x y ≡ point-at a b
 same-point h k = rw (h, k) refl
+
+-- ---- an anchor's reading: what is answered of it, of the state that is handed in as numbers
+module _ (h : AnchorState) where
+  pub anchored-at : (s : State) (P : CodePoint) (x y : ℤ) (t : AnchorState) (a : CodeAnchored) → x ≡ P .x .0 → y ≡ P .y .0 → t ≡ state-numbers s → a ≡ Said.At s P
+      → _≡_ {A = Anchored} (record { refusal = 0; x = x; y = y; state = t }) (anchored-numbers h (answered a) (state-left a))
+  anchored-at s P x y t a ex ey et e = rw (ex, ey, et, e) refl
+
+  pub anchored-refused : (s : State) (k n : ℕ) (a : CodeAnchored) → n ≡ k → a ≡ Said.Refused s k
+      → _≡_ {A = Anchored} (record { refusal = n; x = pos 0; y = pos 0; state = h }) (anchored-numbers h (answered a) (state-left a))
+  anchored-refused s k n a en e = rw (en, e) refl
+
+  pub anchored-read : (s : State) (r : Reading) (a : CodeAnchored) → s ≡ stateOf h → (answered a ≡ anchor-answer s r) × (state-left a ≡ state-after s r) × NothingLost s r (state-left a)
+      → anchored-numbers h (answered a) (state-left a) ≡ read-numbers h r
+  anchored-read s r a e w = rw (w .0, w .1, e) refl
+
+  pub anchored-list : (s t : State) (rs : List Reading) (n : AnchorState) → s ≡ stateOf h → (t ≡ after-all s rs) × AnchorClaim s rs → n ≡ state-numbers t
+      → (n ≡ state-numbers (after-all (stateOf h) rs)) × AnchorClaim (stateOf h) rs
+  anchored-list s t rs n e w k = (k ∙ ap state-numbers (w .0 ∙ ap (λ (u : State). after-all u rs) e), rw e at (w .1))
+
+  -- a refusal of 0 means that the reading is accepted
+  pub anchored-none : (r : Reading) → read-numbers h r .refusal ≡ 0 → anchor-refusal (report (stateOf h) r) ≡ none
+  anchored-none r z = answer-none (λ a. anchored-numbers h a (state-after (stateOf h) r) .refusal) (λ k. refl) _ _ _ z

@@ -1,5 +1,6 @@
 // The interface for programs in other languages: thin functions over the layers, with numbers for answers. A refusal is its number, and 0 is none.
 // None asks anything of its caller, since nothing would check that. include/trails.h says the same to a C programmer.
+mod anchors_of;
 mod questions_of;
 mod tables_of;
 
@@ -107,6 +108,23 @@ pub struct Approach {
     pub leg: u32,
     pub numerator: u64,
     pub denominator: u64,
+}
+
+// An anchor's last place, in centimetres, and whether there is one: 0 for no.
+#[repr(C)]
+pub struct AnchorState {
+    pub x: f32,
+    pub y: f32,
+    pub seen: u32,
+}
+
+// A refusal and the state as it was, or the place, rounded to whole centimetres, and the new state.
+#[repr(C)]
+pub struct Anchored {
+    pub refusal: u32,
+    pub x: i32,
+    pub y: i32,
+    pub state: AnchorState,
 }
 
 fn wide(k: u8) -> u32

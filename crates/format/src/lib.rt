@@ -4,7 +4,7 @@ mod kinds;
 mod numbers;
 
 ghost use mathlib.Core.Path.{_≡_};
-ghost use Prim.Native.Nat.{_+_, _<_, _≤_, suc};
+ghost use Prim.Native.Nat.{_+_, _<_, _≤_, suc, min};
 ghost use lib.ListN.{length, take, drop};
 ghost use lib.Seq.{sets};
 ghost use Rattle.distance.specs.Fix.{fixOf};
@@ -51,6 +51,13 @@ pub struct Head {
     pub kind: u32,
     pub count: u32,
     pub mark: u32,
+}
+
+// The lesser of two numbers: a list that is lent in columns is as long as the shortest of them.
+pub fn least(a: usize, b: usize) -> usize
+    ensures { λ r. ⌜ r ≡ min a b ⌝ }
+{
+    if a < b { a } else { b }
 }
 
 // The fix at a place of the bytes, its coordinates of two bytes each, ..

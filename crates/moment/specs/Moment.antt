@@ -56,6 +56,7 @@ asked-moment s m = record {
   table = nothing .table;
   point = nothing .point;
   radius = nothing .radius;
+  report = nothing .report;
 }
 
 -- THE ANSWER of the place question on lent bytes: "the place question 1 to 9, 11, 12", and of document 02's item 5 "20, directly after 9 [..]; 21, after 12, if the

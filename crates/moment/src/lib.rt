@@ -1,6 +1,7 @@
 // The questions layer: where a trail is at a moment.
 use distance::Coordinate;
 use distance::Fix;
+use distance::Point;
 use distance::Seconds;
 use format::Kind;
 use record::Checked;
@@ -18,18 +19,12 @@ ghost use Rattle.moment.specs.Moment.{beside, place-answer};
 ghost use Rattle.moment.specs.Answers.{standing, placed};
 ghost use Rattle.moment.specs.Laws.Ranges.{OnLeg, Reached, unless-silent};
 
-// A place in whole units of the record.
-pub struct Whole {
-    pub x: Coordinate,
-    pub y: Coordinate,
-}
-
 // The place (x/d, y/d) in the unit of the record, and beside it the rounded one.
 pub struct Spot {
     pub x: i64,
     pub y: i64,
     pub d: u32,
-    pub whole: Whole,
+    pub whole: Point,
 }
 
 // What the place question answers.
@@ -70,7 +65,7 @@ fn on_leg(a: Fix, b: Fix, u: Instant) -> Spot
     let gone = Thousandths((u.0 - start.0) as u32);
     let x = numerator(a.x, b.x, over, gone);
     let y = numerator(a.y, b.y, over, gone);
-    let whole = Whole {
+    let whole = Point {
         x: distance::rounded(x, over.0),
         y: distance::rounded(y, over.0),
     };
@@ -101,7 +96,7 @@ fn alone(a: Fix) -> Spot
 {
     let cx = a.x;
     let cy = a.y;
-    let whole = Whole { x: cx, y: cy };
+    let whole = Point { x: cx, y: cy };
     Spot {
         x: cx.0 as i64,
         y: cy.0 as i64,

@@ -1,11 +1,11 @@
 // Lists of agings: the calls of a lent list, made one after the other on one lent buffer, each by days with its own of the lent tables.
 use aging::Aged;
 use approach::Approached;
-use approach::Point;
 use approach::Radius;
 use crossing::Crossed;
 use crossing::Edges;
 use crossing::Window;
+use distance::Point;
 use distance::Tolerance;
 use record::Checked;
 use table::Days;
@@ -15,7 +15,8 @@ ghost use Rattle.record.specs.Checks.{IsAccepted};
 ghost use Rattle.aging.specs.Aging.{left-by, answered};
 ghost use Rattle.aging.specs.Answers.{counted};
 ghost use Rattle.crossing.specs.Answers.{crossed, boxOf};
-ghost use Rattle.approach.specs.Answers.{approached, pointOf};
+ghost use Rattle.distance.specs.Place.{pointOf};
+ghost use Rattle.approach.specs.Answers.{approached};
 ghost use Rattle.questions.specs.Agings.{run, one-if-refused, refused-calls, run-answer, after-answer, left-after, near-after-answer, near-left-after, call-of, calls-of};
 ghost use Rattle.questions.specs.Answers.{ran};
 ghost use Rattle.questions.specs.Claim.{Claim};

@@ -7,7 +7,7 @@ use mathlib.Core.Option.{Option, some, none}
 use Prim.Native.Nat.{ℕ, _+_, _*_}
 use lib.Dec.{ltb, leb, eqb}
 use lib.ListN.{length}
-use lib.IntN.{ℤ, pos, negℤ}
+use lib.IntN.{ℤ, pos, negℤ, _+ℤ_}
 use lib.Signed.{ltZ}
 use Rattle.distance.specs.Fix.{Fix, last-of}
 use Rattle.distance.specs.Distance.{seconds}
@@ -21,6 +21,20 @@ use Rattle.format.specs.Format.{never, length-field, kind-field, mark-field, co
 pub record Row : Type 0 where
   pub day : ℕ
   pub row-tolerance : ℕ
+
+-- ---- an anchor's reading, counted. Document 02, item 3: an anchor sends "either an absolute place in f32 centimetres or a step from the last place, also two
+-- floats". Here is what two of its floats are in sixteenths of a centimetre; a float that isn't finite or isn't a whole number of them has no count.
+pub record InSixteenths : Type 0 where
+  pub x : Option ℤ
+  pub y : Option ℤ
+
+-- A reading, and the state that it is given.
+pub record Report : Type 0 where
+  pub is-step : Bool
+  pub sent : InSixteenths
+  -- the state's flag, "on from the first accepted absolute place", and its place
+  pub flag : Bool
+  pub last : InSixteenths
 
 -- ---- what a call is handed beside the bytes. A call fills in what it takes; no check that it makes looks at the rest (`reading-alone` and the laws beside it
 -- in Laws/First.antt).
@@ -41,6 +55,8 @@ pub record Given : Type 0 where
   -- "a point and an unsigned radius"
   pub point : Point
   pub radius : ℕ
+  -- an anchor's reading, and the state that it is given
+  pub report : Report
 
 pub record Asked : Type 0 where
   -- how many bytes are lent
@@ -114,6 +130,39 @@ unfoldable pub some-bad-row : (before : Option Row) → List Row → Bool
 some-bad-row before [] = false
 some-bad-row before (r ∷ rows) = bad-row before r || some-bad-row (some r) rows
 
+-- "a value isn't finite or isn't a whole number of sixteenths"
+abbrev pub lacks : Option ℤ → Bool
+lacks none = true
+lacks (some z) = false
+
+abbrev pub uncounted : InSixteenths → Bool
+uncounted c = lacks (c .x) || lacks (c .y)
+
+-- "outside −16,000 to 16,000" centimetres. What has no count is not said to be outside: 17 or 18 has turned it away by then (`new-place-counted` of the anchors'
+-- Laws/Claim.antt).
+abbrev pub far : Option ℤ → Bool
+far none = false
+far (some z) = outside (16 * 16000) z
+
+abbrev pub beyond : InSixteenths → Bool
+beyond c = far (c .x) || far (c .y)
+
+-- "the new place": the one that is sent, and of a step the sum of it and the last place, each coordinate by itself
+abbrev pub plus : Option ℤ → Option ℤ → Option ℤ
+plus none w = none
+plus (some z) none = none
+plus (some z) (some w) = some (z +ℤ w)
+
+abbrev pub moved-by : (last step : InSixteenths) → InSixteenths
+moved-by c d = record { x = plus (c .x) (d .x); y = plus (c .y) (d .y) }
+
+abbrev pub new-place : Report → InSixteenths
+new-place r = cond (r .is-step) (moved-by (r .last) (r .sent)) (r .sent)
+
+-- "a step comes with a state whose flag [..] is off, or whose place 17 or 19 would turn away"
+abbrev pub unready : Report → Bool
+unready r = r .is-step && (not (r .flag) || (uncounted (r .last) || beyond (r .last)))
+
 -- ---- the checks, and their numbers: document 01's fifteen, and those that document 02 adds
 pub data Check : Type 0 where
   few-bytes : Check
@@ -136,6 +185,9 @@ pub data Check : Type 0 where
   bad-row-count : Check
   bad-rows : Check
   bad-point : Check
+  bad-reading : Check
+  bad-state : Check
+  bad-new-place : Check
 
 abbrev pub number : Check → ℕ
 number few-bytes = 1
@@ -154,6 +206,9 @@ number bad-window = 13
 number bad-box = 14
 number short-output = 15
 number bad-point = 16
+number bad-reading = 17
+number bad-state = 18
+number bad-new-place = 19
 number bad-silence = 20
 number moment-in-silence = 21
 number bad-row-count = 22
@@ -199,6 +254,12 @@ sentence K a bad-box =
 sentence K a short-output = ltb (a .given .output) (record-length K (a .count))
 -- 16. "the point is outside −16,000 to 16,000 or the radius is above 32,000": the limit of places, and twice that, as the 320,000 of item 8 is
 sentence K a bad-point = outside (K .limit) (a .given .point .x) || (outside (K .limit) (a .given .point .y) || ltb (2 * K .limit) (a .given .radius))
+-- 17. "a value isn't finite or isn't a whole number of sixteenths"
+sentence K a bad-reading = uncounted (a .given .report .sent)
+-- 18. "a step comes with a state whose flag, on from the first accepted absolute place, is off, or whose place 17 or 19 would turn away"
+sentence K a bad-state = unready (a .given .report)
+-- 19. "the new place is outside −16,000 to 16,000"
+sentence K a bad-new-place = beyond (new-place (a .given .report))
 -- 20. "a silence byte is neither 0 nor 1 or the last fix has 1". Kinds without that byte say 0, and are never turned away by it (`no-silence-refused` of Laws/Silence.antt).
 sentence K a bad-silence = some-other-silence (a .trail-fixes) || of-ends last-silent (a .trail-fixes)
 -- 21. "the moment is strictly inside a silence"
@@ -209,11 +270,12 @@ sentence K a bad-row-count = eqb (length (a .given .table)) 0 || ltb 32 (length 
 sentence K a bad-rows = some-bad-row none (a .given .table)
 
 -- ---- THE ORDER. Document 02, item 2: "16, after 9"; item 5: "20, directly after 9 and before 16, [..]; 21, after 12"; item 6: "directly after 9 and 20: 22, [..]; 23,
--- next".
+-- next". Item 3: "17, first, [..]; 18, next, [..]; 19, last", of a reading, which makes no other.
 abbrev pub order : List Check
 order =
     few-bytes ∷ other-kind ∷ bad-count ∷ bad-length ∷ short-record ∷ bad-mark ∷ misplaced ∷ unordered ∷ long-span ∷ bad-silence ∷ bad-row-count ∷ bad-rows ∷ bad-point
-    ∷ high-tolerance ∷ bad-thousandths ∷ bad-moment ∷ moment-in-silence ∷ bad-window ∷ bad-box ∷ short-output ∷ []
+    ∷ high-tolerance ∷ bad-thousandths ∷ bad-moment ∷ moment-in-silence ∷ bad-window ∷ bad-box ∷ short-output ∷ bad-reading ∷ bad-state
+    ∷ bad-new-place ∷ []
 
 -- Those of a record's head, and those of its fixes.
 abbrev pub head-checks : List Check
@@ -224,7 +286,8 @@ fix-checks = misplaced ∷ unordered ∷ long-span ∷ bad-silence ∷ []
 
 -- "Aging makes checks 1 to 10, aging by days 1 to 9, the place question 1 to 9, 11, 12, the crossing 1 to 9, 13, 14, the reader and the listing 1 to
 -- 9, the writer 3, 7, 8, 9, 15." Document 02, item 5, puts 20 after 9 in each of them, and 21 after the place question's 12. Item 6 has 22 and 23 "on loading, and
--- on the table handed to aging by days". Item 2's question makes 16 after 9 and 20.
+-- on the table handed to aging by days". Item 2's question makes 16 after 9 and 20. Item 3's reading of an anchor
+-- makes 17, 18 and 19.
 pub data Operation : Type 0 where
   reading : Operation
   writing : Operation
@@ -234,6 +297,7 @@ pub data Operation : Type 0 where
   crossing : Operation
   loading : Operation
   approaching : Operation
+  anchoring : Operation
 
 abbrev pub of-record : List ℕ → List ℕ
 of-record l = 1 ∷ 2 ∷ 3 ∷ 4 ∷ 5 ∷ 6 ∷ 7 ∷ 8 ∷ 9 ∷ 20 ∷ l
@@ -247,6 +311,7 @@ makes placing = of-record (11 ∷ 12 ∷ 21 ∷ [])
 makes crossing = of-record (13 ∷ 14 ∷ [])
 makes loading = 22 ∷ 23 ∷ []
 makes approaching = of-record (16 ∷ [])
+makes anchoring = 17 ∷ 18 ∷ 19 ∷ []
 
 abbrev pub member : ℕ → List ℕ → Bool
 member n [] = false
@@ -301,11 +366,12 @@ nothing = record {
   table = [];
   point = point-at (pos 0) (pos 0);
   radius = 0;
+  report = record { is-step = false; sent = record { x = none; y = none }; flag = false; last = record { x = none; y = none } };
 }
 
--- What loads a table, or ages by one, takes its rows.
-abbrev pub with-table : List Row → Given
-with-table rows = record {
+-- What loads a table, or ages by one, takes its rows, and what reads an anchor takes its report.
+abbrev pub with-rows-and-report : List Row → Report → Given
+with-rows-and-report rows r = record {
   tolerance = nothing .tolerance;
   second = nothing .second;
   thousandths = nothing .thousandths;
@@ -316,7 +382,14 @@ with-table rows = record {
   table = rows;
   point = nothing .point;
   radius = nothing .radius;
+  report = r;
 }
+
+abbrev pub with-table : List Row → Given
+with-table rows = with-rows-and-report rows (nothing .report)
+
+abbrev pub with-report : Report → Given
+with-report r = with-rows-and-report (nothing .table) r
 
 -- The refusal of an operation over lent bytes: by the limits of their own kind.
 abbrev pub refusal-of : Operation → List ℕ → Given → Option ℕ
@@ -328,6 +401,10 @@ read-refusal b = refusal-of reading b nothing
 -- Loading looks at no record, so it is asked of no bytes (`loading-alone` of Laws/First.antt).
 abbrev pub load-refusal : List Row → Option ℕ
 load-refusal rows = refusal-of loading [] (with-table rows)
+
+-- Nor does the reading of an anchor (`anchoring-alone`).
+abbrev pub anchor-refusal : Report → Option ℕ
+anchor-refusal r = refusal-of anchoring [] (with-report r)
 
 -- What checks 1 to 6 say: they look at the head alone, and at how many bytes are lent.
 abbrev pub head-refusal : List ℕ → Option ℕ

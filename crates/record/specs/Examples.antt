@@ -1,7 +1,8 @@
--- THE CHECKS IN NUMBERS. Bytes, written out, and what document 01 and document 02's items 5, 6 and 8 say of them: the definitions and the code cannot be changed
+-- THE CHECKS IN NUMBERS. Bytes, written out, and what document 01 and document 02's items 3, 5, 6 and 8 say of them: the definitions and the code cannot be changed
 -- together without these rows. Each line is computed.
 use mathlib.Core.Path.{refl}
 use mathlib.Core.List.{List, [], _∷_}
+use mathlib.Core.Bool.{Bool, true, false}
 use mathlib.Core.Option.{Option, some, none}
 use Prim.Native.Nat.{ℕ}
 use native.Mathlib.Omega.{arith}
@@ -15,7 +16,7 @@ use Rattle.format.specs.Bytes.{number-at, bytes-of, signed, unsigned}
 use Rattle.format.specs.Format.{kind-of, fix-from, fix-at, each, fix-to, fix-bytes, all-bytes, header-bytes, record-bytes}
 use Rattle.format.specs.Examples.{document-bytes, millimetre-bytes, silence-bytes}
 use Rattle.format.specs.Laws.RoundTrip.{AreBytes, all-below, computed-bytes}
-use Rattle.record.specs.Checks.{Row, first, sentence, some-bad-row, some-outside, some-other-silence, some-early-after, some-early, of-ends, read-refusal, load-refusal}
+use Rattle.record.specs.Checks.{Row, Report, anchor-refusal, first, sentence, some-bad-row, some-outside, some-other-silence, some-early-after, some-early, of-ends, read-refusal, load-refusal}
 use Rattle.record.specs.Moved.{Movable}
 use Rattle.record.specs.Tenfold.{tenfold-mark, tenfold-record, Tenfold}
 use Rattle.record.specs.Laws.Tenfold.{tenfold-never, tenfold-marked}
@@ -166,6 +167,37 @@ load-rows =
 pub loads-computed : Computes load-refusal load-rows
 unfolding first sentence some-bad-row each
 loads-computed = refl
+
+-- ---- AN ANCHOR'S READINGS, in sixteenths, and which refusal they get. An absolute place, the state it is given having no place and its flag off; and a step, from a
+-- state with its flag on.
+abbrev pub place-report : (x y : Option ℤ) → Report
+place-report x y = record { is-step = false; sent = record { x = x; y = y }; flag = false; last = record { x = none; y = none } }
+
+abbrev pub step-report : (flag : Bool) (last-x last-y x y : Option ℤ) → Report
+step-report on a b x y = record { is-step = true; sent = record { x = x; y = y }; flag = on; last = record { x = a; y = b } }
+
+pub anchors-computed : Computes anchor-refusal
+    ((place-report (some (pos 0)) (some (pos 0)), none)
+    -- 19. 16,000 centimetres are 256,000 sixteenths
+    ∷ (place-report (some (pos 256000)) (some (minus 256000)), none)
+    ∷ (place-report (some (pos 256001)) (some (pos 0)), some 19)
+    ∷ (place-report (some (pos 0)) (some (minus 256001)), some 19)
+    -- 17 before 19, and before 18
+    ∷ (place-report none (some (pos 0)), some 17)
+    ∷ (place-report (some (pos 256001)) none, some 17)
+    ∷ (step-report false none none none (some (pos 0)), some 17)
+    -- 18 before 19: the flag, what the state's place counts, and where it is
+    ∷ (step-report false (some (pos 0)) (some (pos 0)) (some (pos 0)) (some (pos 0)), some 18)
+    ∷ (step-report true (some (pos 0)) none (some (pos 0)) (some (pos 0)), some 18)
+    ∷ (step-report true (some (pos 256001)) (some (pos 0)) (some (minus 1)) (some (pos 0)), some 18)
+    ∷ (step-report false (some (pos 0)) (some (pos 0)) (some (pos 0)) (some (pos 999999)), some 18)
+    -- 19 of the sum, and not of its parts
+    ∷ (step-report true (some (pos 256000)) (some (pos 0)) (some (minus 512000)) (some (pos 256000)), none)
+    ∷ (step-report true (some (pos 256000)) (some (pos 0)) (some (pos 1)) (some (pos 0)), some 19)
+    ∷ (step-report true (some (pos 0)) (some (minus 1)) (some (pos 0)) (some (minus 256000)), some 19)
+    ∷ [])
+unfolding first sentence
+anchors-computed = refl
 
 -- ---- BUFFERS WHOSE CLOCK IS MOVED, with all that the laws of it ask, so that nothing they ask is empty: document 01's 18 bytes, their fix moved to the last second
 -- of 32 bits and to the first; the same with x = 16,001, which 7 turns away; and with the mark 32,001, which 6 turns away, so that its time may leave 32 bits. Last

@@ -37,6 +37,7 @@ asked-to-write l output = record {
     table = nothing .table;
     point = nothing .point;
     radius = nothing .radius;
+    report = nothing .report;
   };
 }
 

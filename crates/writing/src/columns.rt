@@ -2,7 +2,7 @@
 // silences their column isn't looked at, and may be empty.
 ghost use mathlib.Core.Path.{_≡_};
 ghost use mathlib.Core.Bool.{true, cond};
-ghost use Prim.Native.Nat.{_-_, _<_, _≤_, min};
+ghost use Prim.Native.Nat.{_-_, _<_, _≤_};
 ghost use lib.ListN.{length, getD};
 ghost use lib.Seq.{sets};
 ghost use Rattle.distance.specs.Fix.{Bounded, fixOf};
@@ -22,6 +22,7 @@ use distance::Seconds;
 use distance::Silence;
 use format::Kind;
 use format::has_silences;
+use format::least;
 use format::limit_of;
 use format::put_fix;
 use format::put_head;
@@ -31,12 +32,6 @@ use record::Scan;
 use record::scan_first;
 use record::scan_next;
 use record::scan_says;
-
-fn least(a: usize, b: usize) -> usize
-    ensures { λ r. ⌜ r ≡ min a b ⌝ }
-{
-    if a < b { a } else { b }
-}
 
 // How many fixes the columns have.
 fn columns_count(kind: Kind, ts: &[u32], xs: &[i32], ys: &[i32], silences: &[u8]) -> usize

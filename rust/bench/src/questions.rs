@@ -1,18 +1,21 @@
-//! Places, crossings and approaches per second. They stand alone: the tests' plain versions are written to be seen
+//! Places, crossings and approaches per second, and readings of anchors. They stand alone: the tests' plain versions are written to be seen
 //! right, in numbers of 128 bits and with every meeting tried, so beside them the proved ones would only look quick.
 //!
-//! Each question checks the whole record first, as document 01 asks, so a long trail costs more wherever the answer is.
+//! Each question checks the whole record first, as document 01 asks, so a long trail costs more wherever the answer is. A
+//! reading has no record.
 
 use std::hint::black_box;
 
 use trails::in_threes;
 use trails_tests::cases::Random;
-use trails_tests::interface;
+use trails_tests::interface::{self, AnchorState};
+use trails_tests::plain::anchors::Reading;
 use trails_tests::plain::approach::Circle;
 use trails_tests::plain::crossing::{Area, Question, Window};
 use trails_tests::plain::kinds::CENTIMETRES;
 use trails_tests::plain::{Fix, Trail, MOST_FIXES};
 use trails_tests::questions::Moment;
+use trails_tests::readings::of_sixteenths;
 
 use crate::layout::{heading, microseconds, row};
 use crate::sorts::{typical, SEED};
@@ -123,10 +126,43 @@ impl Inquiry {
         let fixes = in_threes(self.fixes as u64);
         let names = ["places", "crossings", "approaches"];
         for ((name, time), share) in names.into_iter().zip(times).zip(shares) {
-            let mut cells = vec![in_threes((1.0 / time) as u64), microseconds(time)];
-            cells.extend(share);
-            row(&format!("{name}, {fixes} fixes"), &cells);
+            answered(&format!("{name}, {fixes} fixes"), time, share);
         }
+    }
+}
+
+/// A row of what is answered in so many seconds each.
+fn answered(name: &str, time: f64, share: Option<String>) {
+    let mut cells = vec![in_threes((1.0 / time) as u64), microseconds(time)];
+    cells.extend(share);
+    row(name, &cells);
+}
+
+/// What an anchor sends of a cart: a place, and then steps of up to two metres, all accepted.
+fn sent() -> Vec<Reading> {
+    let mut random = Random::new(SEED);
+    let mut step = |k| {
+        let mut value = || of_sixteenths(random.between(-3_200, 3_200));
+        match k % 16 {
+            0 => Reading::Absolute(value(), value()),
+            _ => Reading::Step(value(), value()),
+        }
+    };
+    (0..DRAWN).map(&mut step).collect()
+}
+
+/// Readings one after the other, each given the state that the one before left.
+fn readings() {
+    let all = sent();
+    let take_all = |state: &mut AnchorState| {
+        for reading in &all {
+            *state = interface::anchor(*state, *black_box(reading)).state;
+        }
+    };
+    let mut state = AnchorState::default();
+    let run: Run = Box::new(|| repeated(DRAWN, &mut state, |_| (), take_all));
+    for time in by_turns(&mut [run]) {
+        answered("readings of anchors", time, None);
     }
 }
 
@@ -136,4 +172,5 @@ pub fn section() {
     for n in [64, MOST_FIXES] {
         Inquiry::new(n).rows();
     }
+    readings();
 }

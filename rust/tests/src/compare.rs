@@ -1,11 +1,13 @@
 //! One operation on one lent buffer, by the proved functions and by the plain version: what each answers, and what is
 //! lent afterwards. `draw` draws such cases, `twin` moves one in time, `recast` has one in another kind, `minimise`
-//! makes one smaller, and `met` counts what was met, with `near` for approaches.
+//! makes one smaller, and `met` counts what was met, with `near` for approaches. Anchors have no buffer, and `readings`
+//! is their part of the comparison.
 
 pub mod draw;
 pub mod met;
 pub mod minimise;
 mod near;
+pub mod readings;
 pub mod recast;
 pub mod twin;
 

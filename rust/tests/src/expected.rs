@@ -1,12 +1,15 @@
 //! What the plain version answers to each function of the interface, put as the interface puts it.
 
 use crate::columns::Columns;
-use crate::interface::{handed, Answer, Applied, Head, Loaded, Place, Run, Step};
+use crate::interface::{handed, AnchorState, Anchored, Answer, Applied, Head, Loaded, Place};
+use crate::interface::{Run, Step};
+use crate::plain::anchors::{self, Reading, State};
 use crate::plain::kinds::Kind;
 use crate::plain::lists::{Call, List};
 use crate::plain::moment::Whereabouts;
 use crate::plain::table::Table;
 use crate::plain::{self, lists, moment, thinning, Fix, Trail};
+use crate::readings::ReadingColumns;
 use crate::tables::RowColumns;
 
 /// A refusal's number, 0 for none, and beside it what is answered where there is none, or nothing.
@@ -107,4 +110,38 @@ pub fn run(lent: &mut [u8], list: &List) -> Run {
         refusal,
         turned_away,
     }
+}
+
+/// A state as the plain version has it, of which any number but 0 says that there is a place.
+fn state_of(handed: AnchorState) -> State {
+    let AnchorState { x, y, seen } = handed;
+    State {
+        place: [x, y],
+        seen: seen != 0,
+    }
+}
+
+fn handed_state(State { place, seen }: State) -> AnchorState {
+    let [x, y] = place;
+    AnchorState {
+        x,
+        y,
+        seen: seen.into(),
+    }
+}
+
+/// Of a refused reading the very state that was handed in.
+pub fn anchor(state: AnchorState, reading: Reading) -> Anchored {
+    let (refusal, taken) = told(anchors::read(&state_of(state), reading).map(Some));
+    let [x, y] = taken.map_or([0; 2], |taken| taken.whole);
+    Anchored {
+        refusal,
+        x,
+        y,
+        state: taken.map_or(state, |taken| handed_state(taken.state)),
+    }
+}
+
+pub fn anchor_all(state: AnchorState, columns: &ReadingColumns) -> AnchorState {
+    handed_state(anchors::all(state_of(state), &columns.readings()))
 }

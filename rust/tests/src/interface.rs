@@ -4,16 +4,19 @@ use trails::interface as offered;
 
 pub use offered::{age, built_in, by_table, check, list, place, read};
 pub use offered::{
-    Answer, Applied, Approach, Crossing, Head, Loaded, Place, Row, Run, Step, Table,
+    AnchorState, Anchored, Answer, Applied, Approach, Crossing, Head, Loaded, Place, Row, Run,
+    Step, Table,
 };
 pub use offered::{LONGEST_TEXT, ROWS, TABLE_NUMBERS};
 
 use crate::columns::Columns;
+use crate::plain::anchors::Reading;
 use crate::plain::approach::Circle;
 use crate::plain::crossing::Question;
 use crate::plain::kinds::{Kind, CENTIMETRES, MILLIMETRES};
 use crate::plain::lists::List;
 use crate::plain::table;
+use crate::readings::ReadingColumns;
 use crate::tables::RowColumns;
 
 pub fn read_all(record: &[u8], columns: &mut Columns) -> Answer {
@@ -119,4 +122,29 @@ pub fn near(record: &[u8], circle: &Circle) -> Approach {
 pub fn near_after(record: &mut [u8], list: &List, circle: &Circle) -> Approach {
     let List { calls, tables } = list;
     offered::near_after(record, calls, tables, about(circle))
+}
+
+pub fn anchor(state: AnchorState, reading: Reading) -> Anchored {
+    match reading {
+        Reading::Absolute(x, y) => offered::anchor_absolute(state, x, y),
+        Reading::Step(dx, dy) => offered::anchor_step(state, dx, dy),
+    }
+}
+
+pub fn anchor_all(state: AnchorState, columns: &ReadingColumns) -> AnchorState {
+    let ReadingColumns { step, x, y } = columns;
+    offered::anchor_all(state, step, x, y)
+}
+
+/// All that a state holds, its floats by their bits.
+pub fn bits(state: AnchorState) -> [u32; 3] {
+    let AnchorState { x, y, seen } = state;
+    [x.to_bits(), y.to_bits(), seen]
+}
+
+/// All that is answered to a reading, floats by their bits: refusal, rounded place and state.
+pub fn numbers_anchored(answer: Anchored) -> [i64; 6] {
+    let [x, y, seen] = bits(answer.state).map(i64::from);
+    let place = [answer.x, answer.y].map(i64::from);
+    [answer.refusal.into(), place[0], place[1], x, y, seen]
 }

@@ -14,6 +14,7 @@ pub mod interface;
 pub mod plain;
 pub mod programs;
 pub mod questions;
+pub mod readings;
 pub mod shapes;
 pub mod tables;
 pub mod told;

@@ -1,11 +1,12 @@
 //! A plain version of document 01 and of what document 02 has changed since: the trail record with its checks, reader,
 //! writers and listing here, its three kinds in `kinds`, tables of days in `table`, thinning and aging in `thinning`, lists
-//! of agings in `lists`, places at fractional times in `place`, and the three questions in `moment`, `crossing` and
-//! `approach`.
+//! of agings in `lists`, places at fractional times in `place`, the three questions in `moment`, `crossing` and
+//! `approach`, and readings of anchors in `anchors`.
 //!
 //! It follows the documents' sentences one by one. It takes nothing from the proved code, so that a misreading there
 //! would show as a difference here.
 
+pub mod anchors;
 pub mod approach;
 pub mod crossing;
 pub mod kinds;

@@ -4,9 +4,11 @@
 
 use trails_tests::cases::Settings;
 use trails_tests::columns::Columns;
+use trails_tests::compare::readings::{self, Difference, Side};
 use trails_tests::compare::{plain, proved, run, Case, Outcome, Reply};
 use trails_tests::compare::{Operation, Sides};
-use trails_tests::interface::Crossing;
+use trails_tests::interface::{self, Crossing};
+use trails_tests::plain::anchors::Reading;
 use trails_tests::plain::approach::Circle;
 use trails_tests::plain::crossing::{Area, Question, Window};
 use trails_tests::plain::kinds::{Kind, CENTIMETRES, MILLIMETRES, SILENCES};
@@ -646,4 +648,77 @@ fn what_both_sides_do_to_silences_is_shown_by_the_same_without() {
     });
     assert_eq!(case.operation, Operation::Days(0, Table::default()));
     assert_eq!(case.buffer, record(0, &[(0, 0, 0)]));
+}
+
+// ---- readings of anchors
+
+/// What is shown of readings if this is put in the proved side's place.
+fn shown_of_readings(side: Side) -> Difference {
+    match readings::run(SETTINGS, side) {
+        Ok(met) => panic!("no difference was found:\n{met}"),
+        Err(difference) => *difference,
+    }
+}
+
+#[test]
+fn readings_have_no_difference_and_nothing_is_missing() {
+    let met = readings::run(SETTINGS, readings::PROVED).unwrap_or_else(|one| panic!("{one}"));
+    println!("{met}");
+    assert!(met.missing().is_empty(), "{:?}", met.missing());
+    assert!(met.to_string().contains("\n30000 readings in "));
+}
+
+/// A half below 0 that goes upward is shown with one reading.
+#[test]
+fn a_place_that_is_rounded_otherwise_is_shown_with_its_reading() {
+    let difference = shown_of_readings(Side {
+        one: &|state, reading| {
+            let mut answer = interface::anchor(state, reading);
+            answer.x += i32::from(answer.refusal == 0 && answer.state.x.fract() == -0.5);
+            answer
+        },
+        ..readings::PROVED
+    });
+    let [reading] = difference.readings[..] else {
+        panic!("{difference}");
+    };
+    let state = interface::anchor(difference.state, reading).state;
+    assert_eq!(state.x.fract(), -0.5, "{difference}");
+}
+
+/// A refused reading that leaves another NaN, which only its bits tell.
+#[test]
+fn a_state_that_loses_a_bit_is_shown() {
+    let difference = shown_of_readings(Side {
+        one: &|state, reading| {
+            let mut answer = interface::anchor(state, reading);
+            if answer.state.x.is_nan() {
+                answer.state.x = f32::from_bits(answer.state.x.to_bits() ^ 1);
+            }
+            answer
+        },
+        ..readings::PROVED
+    });
+    assert!(difference.state.x.is_nan() && !difference.as_list);
+}
+
+/// A list that takes its last step twice is shown with an absolute place and a step.
+#[test]
+fn a_list_that_is_wrong_is_shown_with_few_readings() {
+    let difference = shown_of_readings(Side {
+        all: &|state, columns| {
+            let mut columns = columns.clone();
+            if columns.step.last() == Some(&1) {
+                columns.step.push(1);
+                columns.x.extend(columns.x.last().copied());
+                columns.y.extend(columns.y.last().copied());
+            }
+            interface::anchor_all(state, &columns)
+        },
+        ..readings::PROVED
+    });
+    assert!(difference.as_list);
+    let last = difference.readings.last();
+    assert!(matches!(last, Some(Reading::Step(..))), "{difference}");
+    assert!(difference.readings.len() <= 2, "{difference}");
 }

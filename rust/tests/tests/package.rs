@@ -3,15 +3,17 @@
 #![forbid(unsafe_code)]
 
 use trails::{
-    Aging, AnyFix, Approach, Area, Crossing, Fix, Fixes, MillimetreFix, OfKind, SilenceFix,
+    Aging, AnchorState, AnyFix, Approach, Area, Crossing, Fix, Fixes, MillimetreFix, OfKind,
+    SilenceFix,
 };
-use trails::{Kind as Offered, Moment, Point, Refusal, Row, Table, Unit, Window};
+use trails::{Kind as Offered, Moment, Point, Reading, Refusal, Row, Table, Unit, Window};
 use trails_tests::cases::{Case, Cases, Random, Settings};
 use trails_tests::plain::kinds::{Kind, CENTIMETRES, KINDS, MILLIMETRES};
 use trails_tests::plain::lists::Call;
 use trails_tests::plain::place::Time;
-use trails_tests::plain::{self, approach, crossing, moment, table};
+use trails_tests::plain::{self, anchors, approach, crossing, moment, table};
 use trails_tests::questions::Asked as _;
+use trails_tests::readings::any_state;
 use trails_tests::tables::RowColumns;
 
 fn cases() -> Vec<Case> {
@@ -448,4 +450,70 @@ fn approaches_are_equal_by_leg_and_value() {
     let late = approach(0, 13_421_772_800_000_000, 204_800_000_000);
     assert_eq!(late, approach(0, 65_536, 1));
     assert_ne!(late, approach(0, 65_535, 1));
+}
+
+// ---- anchors
+
+fn offered_reading(reading: anchors::Reading) -> Reading {
+    match reading {
+        anchors::Reading::Absolute(x, y) => Reading::Absolute { x, y },
+        anchors::Reading::Step(dx, dy) => Reading::Step { dx, dy },
+    }
+}
+
+fn state_bits(place: [f32; 2], seen: bool) -> ([u32; 2], bool) {
+    (place.map(f32::to_bits), seen)
+}
+
+#[test]
+fn readings_are_taken_one_by_one_and_as_lists() {
+    let settings = Settings::get();
+    let mut random = Random::new(settings.seed);
+    let mut met = [0; 24];
+    for _ in 0..settings.cases {
+        let handed = any_state(&mut random);
+        let mut plain = anchors::State {
+            place: [handed.x, handed.y],
+            seen: handed.seen != 0,
+        };
+        let first = AnchorState {
+            x: handed.x,
+            y: handed.y,
+            seen: plain.seen,
+        };
+        let mut state = first;
+        let mut list = Vec::new();
+        for _ in 0..10 {
+            let reading = anchors::Reading::any(&handed, &mut random);
+            list.push(offered_reading(reading));
+            let read = trails::read_anchor(state, offered_reading(reading));
+            let expected = anchors::read(&plain, reading);
+            let told = number(read).map(|read| {
+                state = read.state;
+                [read.x, read.y].map(i32::from)
+            });
+            met[usize::from(told.err().unwrap_or(0))] += 1;
+            assert_eq!(told, expected.map(|taken| taken.whole), "{reading:?}");
+            plain = expected.map_or(plain, |taken| taken.state);
+            let left = state_bits([state.x, state.y], state.seen);
+            assert_eq!(left, state_bits(plain.place, plain.seen), "{reading:?}");
+        }
+        let all = trails::read_anchors(first, &list);
+        let left = state_bits([all.x, all.y], all.seen);
+        assert_eq!(left, state_bits(plain.place, plain.seen), "{list:?}");
+    }
+    assert!(
+        [0, 17, 18, 19].iter().all(|&number| met[number] > 0),
+        "{met:?}"
+    );
+}
+
+#[test]
+fn no_reading_leaves_the_state() {
+    let start = AnchorState::default();
+    assert_eq!((start.x, start.y, start.seen), (0.0, 0.0, false));
+    assert_eq!(trails::read_anchors(start, &[]), start);
+    let step = Reading::Step { dx: 0.0, dy: 0.0 };
+    assert_eq!(trails::read_anchor(start, step), Err(Refusal::BadState));
+    assert_eq!(trails::read_anchors(start, &[step]), start);
 }

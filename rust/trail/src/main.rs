@@ -5,6 +5,7 @@
 #![forbid(unsafe_code)]
 
 mod age;
+mod anchors;
 mod answer;
 mod arguments;
 mod beside;
@@ -54,7 +55,7 @@ usage: trail COMMAND ARGUMENTS
 
   list     print a trail's fixes
   check    say whether files begin with a trail
-  write    make a trail of a text with fixes
+  write    make a trail of a text with fixes, or with what anchors sent
   age      thin trails, by a tolerance or by days
   table    check a hall's own table of days and tolerances, and print it
   place    say where a cart was at a moment

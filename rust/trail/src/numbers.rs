@@ -62,6 +62,13 @@ pub fn whole<N: FromStr>(word: &str, range: Range) -> Result<N, String> {
     word.parse().map_err(wrong)
 }
 
+/// The float that an anchor has sent, as a text has it: a decimal number stands for the float nearest to it, which is how
+/// programs print one in few digits, and `inf` and `nan` for what isn't finite.
+pub fn float(word: &str) -> Result<f32, String> {
+    let wrong = |_| format!("{} isn't a decimal number", words::quoted(word));
+    word.parse().map_err(wrong)
+}
+
 /// The moment that `SECOND` or `SECOND.mmm` has.
 pub fn moment(word: &str) -> Result<Moment, String> {
     let (second, part) = word.split_once('.').unwrap_or((word, "0"));
@@ -107,6 +114,27 @@ mod tests {
         assert_eq!(what, "'\\u{1b}[2J' isn't a whole number from 0 to 65,535");
         let long = whole::<i16>(&"9".repeat(1_000_000), Range::Seconds);
         assert!(long.is_err_and(|what| what.len() < 100));
+    }
+
+    #[test]
+    fn floats_are_the_nearest_to_what_stands_there() {
+        for (word, value) in [
+            ("12.0625", 12.0625),
+            ("-1.5e3", -1_500.0),
+            ("+.5", 0.5),
+            // as the float 20000.0625 is printed in the fewest digits
+            ("20000.063", 20_000.0 + 0.0625),
+            ("1e39", f32::INFINITY),
+            ("-inf", f32::NEG_INFINITY),
+        ] {
+            assert_eq!(float(word), Ok(value), "{word}");
+        }
+        assert!(float("NaN").is_ok_and(f32::is_nan));
+        assert!(float("-0").is_ok_and(|zero| zero == 0.0 && zero.is_sign_negative()));
+        for wrong in ["", "-", "0x10", "1,5", "1f", "1_000", "twelve", "1e"] {
+            let what = float(wrong).expect_err("no number");
+            assert_eq!(what, format!("'{wrong}' isn't a decimal number"));
+        }
     }
 
     #[test]

@@ -27,10 +27,11 @@ const fn choice(
 
 const EDGES: &[&str] = &["X0", "X1", "Y0", "Y1"];
 
-pub static OPTIONS: [Choice; 13] = [
+pub static OPTIONS: [Choice; 14] = [
     choice("--json", &[], None),
     choice("--force", &[], None),
     choice("--millimetres", &[], None),
+    choice("--anchors", &[], None),
     choice("--silence-after", &["SECONDS"], Some(Range::Seconds)),
     choice("--tolerance", &["E"], Some(Range::Tolerances(None))),
     choice("--days", &["D"], Some(Range::Days)),

@@ -1,10 +1,11 @@
-//! `trail write`: makes a trail of a text with fixes.
+//! `trail write`: makes a trail of a text with fixes, or with what anchors have sent.
 
 use std::ffi::{OsStr, OsString};
 use std::str::FromStr;
 
 use trails::{AnyFix, Fix, Kind, MillimetreFix, OfKind, Refusal, SilenceFix, Unit};
 
+use crate::anchors::{self, Seen};
 use crate::arguments::{Arguments, Command};
 use crate::failure::{Fact, Failure, Refused, Spot, Status};
 use crate::json::Json;
@@ -19,6 +20,7 @@ pub const COMMAND: Command = Command {
         "-o",
         "--force",
         "--millimetres",
+        "--anchors",
         "--silence-after",
         "--json",
     ],
@@ -28,6 +30,8 @@ pub const COMMAND: Command = Command {
 const HELP: &str = "\
 usage: trail write [--millimetres | --silence-after SECONDS] [--json] [--force]
                    FIXES -o FILE
+       trail write --anchors [--silence-after SECONDS] [--json] [--force]
+                   READINGS -o FILE
 
 Makes a trail, marked never thinned, of a text that has a fix in each line:
 
@@ -44,16 +48,35 @@ it: until the next fix nobody knows where it was. '-', '0' or nothing there says
 that it didn't. If any line has a fourth place, or --silence-after is given, the
 trail is of the kind that can have silences.
 
+With --anchors the text has what a ceiling anchor sent, a reading in each line:
+
+  time absolute X Y     or      time,absolute,X,Y
+  time step DX DY       or      time,step,DX,DY
+
+in centimetres: a place, or how far the cart went from the last one. Values are
+decimal numbers and stand for the nearest float of 32 bits, as an anchor sends
+it. It must be a whole number of sixteenths. Each reading becomes a fix, its
+place rounded to whole centimetres, halves away from 0. One that is refused, by
+17, 18 or 19, is named with its line, changes nothing and gives no fix; the rest
+go on, the trail is stored, and the exit status is 1. At the end it says how
+many readings, refused ones and fixes there were.
+
   --silence-after SECONDS
                  a silence is also where two neighbouring fixes are further
                  apart than so many seconds
   --millimetres  x and y are in millimetres, -160,000 to 160,000, and so are
                  then all lengths of the trail; no kind of trail has silences
                  too
-  -o FILE        where the trail goes; '-' is the standard output
+  --anchors      the text has readings; they are in centimetres, so there are
+                 no millimetres then
+  -o FILE        where the trail goes; '-' is the standard output, and what is
+                 said at the end is then on standard error
   --force        let FILE be the text itself, which the trail then replaces
   --json         print one line: {\"file\", \"unit\", \"count\", \"silences\",
-                 \"bytes\"}, with null for the silences if it can have none
+                 \"bytes\"}, with null for the silences if it can have none;
+                 with --anchors also \"readings\" and \"turned_away\", how many
+                 were refused, and before it a line for each of these: {\"file\",
+                 \"line\", \"refused\", \"sentence\"}
 ";
 
 /// A line of the text, with lengths as its unit has them.
@@ -168,9 +191,15 @@ fn in_millimetres(from: &OsStr, text: &[u8]) -> Result<Made, Failure> {
     made(from, &lines::entries(from, text, fix)?)
 }
 
+/// A line in centimetres, with its number.
+type InCentimetres = (usize, Line<i16>);
+
 /// With silences if a line says one way or the other, or if they are where more than so many seconds pass.
-fn in_centimetres(from: &OsStr, text: &[u8], after: Option<u32>) -> Result<Made, Failure> {
-    let lines = lines::entries(from, text, |fields| line(Unit::Centimetres, fields))?;
+fn in_centimetres(
+    from: &OsStr,
+    lines: Vec<InCentimetres>,
+    after: Option<u32>,
+) -> Result<Made, Failure> {
     let said = lines.iter().any(|(_, line)| line.silence.is_some());
     if !said && after.is_none() {
         let fixes = lines.into_iter();
@@ -196,32 +225,105 @@ fn fall_silent(fixes: &mut [(usize, SilenceFix)], after: u32) {
     }
 }
 
-fn run(arguments: &Arguments) -> Result<Status, Failure> {
-    let [from]: &[OsString; 1] = arguments.exactly("one text with fixes")?;
-    let to = arguments.output()?;
-    if files::is_read(from, to) && !arguments.has("--force") {
-        return Err(arguments.wrong("-o names the text itself; --force replaces it"));
-    }
-    let after = arguments.number("--silence-after")?;
-    let fine = arguments.has("--millimetres");
-    if fine && after.is_some() {
-        let what = format!("--millimetres and --silence-after: {NOT_BOTH}");
-        return Err(arguments.wrong(&what));
-    }
-    let text = files::read_text(from)?;
-    let made = match fine {
-        true => in_millimetres(from, &text)?,
-        false => in_centimetres(from, &text, after)?,
+/// The fixes that anchors have seen, as lines that say nothing of silences.
+fn lines_of(seen: &[(usize, Seen)]) -> Vec<InCentimetres> {
+    let line = |&(number, Seen { t, x, y }): &(usize, Seen)| {
+        let silence = None;
+        (number, Line { t, x, y, silence })
     };
-    store(to, &[from], made.record.as_slice())?;
-    if arguments.has("--json") {
-        output::print_json(Json::Object(vec![
-            ("file", Json::text(to)),
-            ("unit", Json::unit(made.kind.unit())),
-            ("count", Json::Whole(made.count as i128)),
-            ("silences", Json::silences(made.kind, made.silences)),
-            ("bytes", Json::Whole(made.record.len() as i128)),
-        ]))?;
+    seen.iter().map(line).collect()
+}
+
+/// What is to be read, and how.
+struct Asked<'a> {
+    from: &'a OsStr,
+    to: &'a OsStr,
+    fine: bool,
+    anchors: bool,
+    after: Option<u32>,
+    json: bool,
+}
+
+impl Asked<'_> {
+    fn of(arguments: &Arguments) -> Result<Asked<'_>, Failure> {
+        let [from]: &[OsString; 1] = arguments.exactly("one text with fixes or readings")?;
+        let to = arguments.output()?;
+        if files::is_read(from, to) && !arguments.has("--force") {
+            return Err(arguments.wrong("-o names the text itself; --force replaces it"));
+        }
+        let asked = Asked {
+            from,
+            to,
+            fine: arguments.has("--millimetres"),
+            anchors: arguments.has("--anchors"),
+            after: arguments.number("--silence-after")?,
+            json: arguments.has("--json"),
+        };
+        if asked.fine && asked.after.is_some() {
+            let what = format!("--millimetres and --silence-after: {NOT_BOTH}");
+            return Err(arguments.wrong(&what));
+        }
+        if asked.fine && asked.anchors {
+            let what = "--millimetres and --anchors: anchors are in centimetres";
+            return Err(arguments.wrong(what));
+        }
+        Ok(asked)
+    }
+}
+
+fn run(arguments: &Arguments) -> Result<Status, Failure> {
+    let asked = Asked::of(arguments)?;
+    let text = files::read_text(asked.from)?;
+    match asked.anchors {
+        true => run_anchors(&asked, &text),
+        false => run_fixes(&asked, &text),
+    }
+}
+
+fn run_fixes(asked: &Asked, text: &[u8]) -> Result<Status, Failure> {
+    let from = asked.from;
+    let line = |fields: &[&str]| line(Unit::Centimetres, fields);
+    let made = match asked.fine {
+        true => in_millimetres(from, text)?,
+        false => in_centimetres(from, lines::entries(from, text, line)?, asked.after)?,
+    };
+    store(asked.to, &[from], made.record.as_slice())?;
+    if asked.json {
+        output::print_json(Json::Object(fields(asked.to, &made)))?;
     }
     Ok(Status::Done)
+}
+
+/// The trail is stored also if readings were refused: those that were accepted say as much as if they had been alone.
+fn run_anchors(asked: &Asked, text: &[u8]) -> Result<Status, Failure> {
+    let from = asked.from;
+    let read = anchors::read(from, text, asked.json)?;
+    let made = in_centimetres(from, lines_of(&read.seen), asked.after)?;
+    store(asked.to, &[from], made.record.as_slice())?;
+    let summary = read.summary(from);
+    match (asked.json, asked.to == "-") {
+        (true, _) => {
+            let mut fields = fields(asked.to, &made);
+            fields.extend([
+                ("readings", Json::Whole(read.readings as i128)),
+                ("turned_away", Json::Whole(read.turned_away() as i128)),
+            ]);
+            output::print_json(Json::Object(fields))?;
+        }
+        // the standard output has the trail
+        (false, true) => output::message(&summary),
+        (false, false) => output::print(&format!("{summary}\n"))?,
+    }
+    Ok(read.worst)
+}
+
+/// What programs are told.
+fn fields(to: &OsStr, made: &Made) -> Vec<(&'static str, Json)> {
+    vec![
+        ("file", Json::text(to)),
+        ("unit", Json::unit(made.kind.unit())),
+        ("count", Json::Whole(made.count as i128)),
+        ("silences", Json::silences(made.kind, made.silences)),
+        ("bytes", Json::Whole(made.record.len() as i128)),
+    ]
 }

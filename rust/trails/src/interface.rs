@@ -190,6 +190,33 @@ pub struct Circle {
     pub radius: u32,
 }
 
+/// An anchor's state: its last place, and whether there is one. Any bits are a state. No `PartialEq`: a NaN isn't equal to
+/// itself, and -0.0 is equal to 0.0.
+#[repr(C)]
+#[derive(Clone, Copy, Debug, Default)]
+pub struct AnchorState {
+    /// Centimetres.
+    pub x: f32,
+    /// Centimetres.
+    pub y: f32,
+    /// 0 if there is no place yet, and anything else if there is one.
+    pub seen: u32,
+}
+
+/// What became of a reading.
+#[repr(C)]
+#[derive(Clone, Copy, Debug)]
+pub struct Anchored {
+    /// 0 for none; else x and y are 0, and the state is the very one that was handed in.
+    pub refusal: u32,
+    /// The new place's x as a whole number of centimetres, halves away from 0.
+    pub x: i32,
+    /// Its y, likewise.
+    pub y: i32,
+    /// The new state.
+    pub state: AnchorState,
+}
+
 /// Room for every listing: none has more bytes.
 pub const LONGEST_TEXT: usize = 159_765;
 
@@ -296,6 +323,17 @@ extern "C" {
         y: i32,
         radius: u32,
     ) -> Approach;
+    fn trails_anchor_absolute(state: AnchorState, x: f32, y: f32) -> Anchored;
+    fn trails_anchor_step(state: AnchorState, dx: f32, dy: f32) -> Anchored;
+    fn trails_anchor_all(
+        state: AnchorState,
+        step: *const u8,
+        step_count: usize,
+        x: *const f32,
+        x_count: usize,
+        y: *const f32,
+        y_count: usize,
+    ) -> AnchorState;
 }
 
 /// Whether the bytes begin with a record: checks 1 to 9 and 20.
@@ -537,6 +575,35 @@ pub fn near_after(record: &mut [u8], calls: &[u64], tables: &[u16], asked: Circl
             asked.x,
             asked.y,
             asked.radius,
+        )
+    }
+}
+
+/// Takes an absolute place that an anchor has sent: checks 17 and 19.
+pub fn anchor_absolute(state: AnchorState, x: f32, y: f32) -> Anchored {
+    // SAFETY: it is lent nothing, and all bits of a state and of a float have an answer.
+    unsafe { trails_anchor_absolute(state, x, y) }
+}
+
+/// Takes a step from the last place that an anchor has sent: checks 17, 18 and 19.
+pub fn anchor_step(state: AnchorState, dx: f32, dy: f32) -> Anchored {
+    // SAFETY: as in `anchor_absolute`.
+    unsafe { trails_anchor_step(state, dx, dy) }
+}
+
+/// Takes the readings in three columns, as many as the shortest has, each with the state that the one before left: an
+/// absolute place where `step` is 0, and else a step. Answers the state after all, whose `seen` is 0 or 1.
+pub fn anchor_all(state: AnchorState, step: &[u8], x: &[f32], y: &[f32]) -> AnchorState {
+    // SAFETY: as in `check`, and of the rest as in `anchor_absolute`.
+    unsafe {
+        trails_anchor_all(
+            state,
+            step.as_ptr(),
+            step.len(),
+            x.as_ptr(),
+            x.len(),
+            y.as_ptr(),
+            y.len(),
         )
     }
 }

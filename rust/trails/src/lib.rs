@@ -5,10 +5,12 @@
 //! every length of a slice has an answer. Nothing here panics, and only the module `interface` has `unsafe`.
 //!
 //! Times are in seconds. A record has its lengths in centimetres or in millimetres, and is asked and aged in its own
-//! unit. One of kind 3 has silences: between a fix that says so and the next one nobody knows where the cart was.
+//! unit. One of kind 3 has silences: between a fix that says so and the next one nobody knows where the cart was. Ceiling
+//! anchors report in floats, of which each reading gives a place for a fix.
 //!
 //! ```
-//! use trails::{Area, Fix, Fixes, MillimetreFix, Moment, Point, Refusal, Row, SilenceFix, Table, Unit, Window};
+//! use trails::{AnchorState, Area, Fix, Fixes, MillimetreFix, Moment, Point, Reading, Refusal, Row, SilenceFix};
+//! use trails::{Table, Unit, Window};
 //!
 //! let fix = |t, x| Fix { t, x, y: 0 };
 //! let mut record = trails::write(&[fix(0, 0), fix(10, 100), fix(20, 200)])?;
@@ -49,12 +51,21 @@
 //! assert_eq!(trails::check(&record)?.mark, None);
 //! assert_eq!(trails::age_by_days(&mut record, 14, &table), Ok(1));
 //! assert_eq!(trails::check(&record)?.mark, Some(5));
+//!
+//! // an anchor in the ceiling sends a place in centimetres, and then how far the cart went from it
+//! let step = Reading::Step { dx: 0.25, dy: -7.0625 };
+//! assert_eq!(trails::read_anchor(AnchorState::default(), step), Err(Refusal::BadState));
+//! let sent = trails::read_anchor(AnchorState::default(), Reading::Absolute { x: 12.25, y: 0.5 })?;
+//! let sent = trails::read_anchor(sent.state, step)?;
+//! assert_eq!((sent.state.x, sent.state.y), (12.5, -6.5625));
+//! assert_eq!(Fix { t: 30, x: sent.x, y: sent.y }, Fix { t: 30, x: 13, y: -7 });
 //! # Ok::<(), Refusal>(())
 //! ```
 #![deny(unsafe_code)]
 #![deny(missing_docs)]
 
 mod aging;
+mod anchors;
 mod fix;
 pub mod interface;
 mod kind;
@@ -65,6 +76,7 @@ mod table;
 mod unit;
 
 pub use aging::{age, age_by_days, run, Aging};
+pub use anchors::{read_anchor, read_anchors, AnchorState, Anchored, Reading};
 pub use fix::{AnyFix, Fix, Fixes, MillimetreFix, OfKind, SilenceFix};
 pub use kind::{of_every_kind, Kind};
 pub use questions::{crosses, crosses_after, near, near_after, place};

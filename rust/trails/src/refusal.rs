@@ -7,8 +7,8 @@ use crate::kind::{of_every_kind, Kind};
 use crate::unit::in_threes;
 
 /// Why a call was turned away, in the order in which a call makes its checks. A refused call leaves all lent bytes as
-/// they were. What has a limit here has that of kind 1, and 23 that of every kind; `sentence` says each with the limits of a
-/// record's own kind.
+/// they were. What has a limit here has that of kind 1, and 19 and 23 that of every kind; `sentence` says each with the
+/// limits of a record's own kind.
 #[derive(Clone, Copy, Debug, PartialEq, Eq, Hash)]
 pub enum Refusal {
     /// 1: the lent bytes are fewer than 10.
@@ -51,13 +51,19 @@ pub enum Refusal {
     BadBox,
     /// 15: the output has fewer than 10 + 8n bytes.
     ShortOutput,
+    /// 17: an anchor's value isn't finite, or isn't a whole number of sixteenths.
+    BadReading,
+    /// 18: a step comes with a state that has no place yet, or one that 17 or 19 would turn away.
+    BadState,
+    /// 19: the anchor's new place is outside −16,000 to 16,000.
+    BadNewPlace,
     /// A number that isn't the documents'. Only an archive of another version could answer it.
     Unknown(u32),
 }
 
-/// The twenty, in checking order, each with its number and its sentence, in which the names of `LIMITS` stand for a
+/// All of them, in checking order, each with its number and its sentence, in which the names of `LIMITS` stand for a
 /// kind's numbers.
-const SENTENCES: [(u32, Refusal, &str); 20] = [
+const SENTENCES: [(u32, Refusal, &str); 23] = [
     (1, Refusal::FewBytes, "The lent bytes are fewer than 10."),
     (2, Refusal::OtherKind, "The kind isn't 1, 2 or 3."),
     (3, Refusal::BadCount, "The count is 0 or above 4,096."),
@@ -142,6 +148,21 @@ const SENTENCES: [(u32, Refusal, &str); 20] = [
         Refusal::ShortOutput,
         "The output has fewer than {length} bytes.",
     ),
+    (
+        17,
+        Refusal::BadReading,
+        "A value isn't finite, or isn't a whole number of sixteenths.",
+    ),
+    (
+        18,
+        Refusal::BadState,
+        "A step comes with a state that has no place yet, or one that 17 or 19 would turn away.",
+    ),
+    (
+        19,
+        Refusal::BadNewPlace,
+        "The new place is outside −16,000 to 16,000.",
+    ),
 ];
 
 /// A number that each kind has for itself, as sentences have it.
@@ -175,7 +196,7 @@ impl Refusal {
         known.map_or(Refusal::Unknown(number), |(_, refusal, _)| *refusal)
     }
 
-    /// Its number in the documents: 1 to 15 in document 01, 16 and 20 to 23 in document 02.
+    /// Its number in the documents: 1 to 15 in document 01, 16 to 23 in document 02.
     pub fn number(self) -> u32 {
         match self {
             Refusal::Unknown(number) => number,
@@ -230,7 +251,7 @@ mod tests {
         for number in (1..=100).chain([u32::MAX]) {
             let refusal = Refusal::from_number(number);
             assert_eq!(refusal.number(), number);
-            let known = matches!(number, 1..=16 | 20..=23);
+            let known = matches!(number, 1..=23);
             assert_eq!(matches!(refusal, Refusal::Unknown(_)), !known);
             let sentences = Kind::ALL.map(|kind| refusal.sentence(kind));
             for sentence in sentences.into_iter().chain([refusal.to_string()]) {
@@ -247,6 +268,9 @@ mod tests {
         assert_eq!(Refusal::HighTolerance.number(), 10);
         assert_eq!(Refusal::ShortOutput.number(), 15);
         assert_eq!(Refusal::BadPoint.number(), 16);
+        assert_eq!(Refusal::BadReading.number(), 17);
+        assert_eq!(Refusal::BadState.number(), 18);
+        assert_eq!(Refusal::BadNewPlace.number(), 19);
         assert_eq!(Refusal::BadSilence.number(), 20);
         assert_eq!(Refusal::InSilence.number(), 21);
         assert_eq!(Refusal::BadRowCount.number(), 22);

@@ -6,13 +6,10 @@ use mathlib.Core.Option.{Option, some, none}
 use Prim.Native.Nat.{ℕ, _*_, _≤_, _<_}
 use native.Mathlib.Omega.{arith}
 use lib.Dec.{ltb}
-use lib.IntN.{ℤ, pos, negℤ, natAbs}
-use lib.Signed.{ltZ}
+use lib.IntN.{ℤ, natAbs}
 use borrow.Author.Tests.{ltb-false}
 use Rattle.distance.specs.Fix.{widest}
 use Rattle.distance.specs.Place.{after-first, Point}
-use Rattle.distance.specs.Integers.Bounds.{abs-bound}
-use Rattle.distance.specs.Integers.Order.{le-of-ltZ}
 use Rattle.distance.specs.Integers.Tests.{neither}
 use Rattle.format.specs.Format.{kind-of, count-field, fixes}
 use Rattle.format.specs.Laws.Kinds.{kind-of-is}
@@ -20,7 +17,7 @@ use Rattle.record.specs.Checks.{Check, bad-point, first, sentence, head-checks,
 use Rattle.record.specs.Answers.{Answer, gives, turns-away, answer}
 use Rattle.record.specs.Laws.First.{stops, passes, first-none, some-first, none-first, none-front, none-holds, NoneHolds, no-check, and-not, reading-alone, first-exactly}
 use Rattle.record.specs.Laws.Head.{asks}
-use Rattle.record.specs.Laws.Accepted.{accepted-good, times-good}
+use Rattle.record.specs.Laws.Accepted.{accepted-good, times-good, inside-bound}
 use Rattle.record.specs.Laws.Trail.{from, from-next, from-end, fix-of, fixes-from}
 use Rattle.approach.specs.declared.Approach.{Approach}
 use Rattle.approach.specs.Approach.{Comes, ToldNear, told-on, leg-near, near-from, first-near, asked-near, near-refusal, near-answer, MeansNear, NearMeans}
@@ -39,9 +36,7 @@ point-good limit wide c r h =
     record { cx = good (c .x) (a .0); cy = good (c .y) (b .0); near-enough = omega (arith, ltb-false (2 * limit) r (b .1)) }
   where
     good : (z : ℤ) → outside limit z ≡ false → natAbs z ≤ widest
-    good z k =
-        let n = neither (ltZ z (negℤ (pos limit))) (ltZ (pos limit) z) k in
-        omega (arith, abs-bound z limit (le-of-ltZ (n .1)) (le-of-ltZ (n .0)))
+    good z k = omega (arith, inside-bound limit z k)
 
 -- the check of the question itself
 abbrev pub own-check : List Check

@@ -1,14 +1,14 @@
 -- What an accepted record gives, and when a record is accepted: its head, its mark, and its fixes.
 use mathlib.Core.Path.{_≡_, refl, sym, _∙_, ap}
-use mathlib.Core.Bool.{Bool, true, false, not, _&&_}
+use mathlib.Core.Bool.{Bool, true, false, not, _&&_, or-false}
 use mathlib.Core.List.{List, [], _∷_}
 use mathlib.Core.Option.{none}
-use Prim.Native.Nat.{ℕ, _+_, _≤_}
+use Prim.Native.Nat.{ℕ, zero, suc, _+_, _≤_}
 use native.Mathlib.Omega.{arith}
 use lib.Dec.{ltb, leb, eqb}
 use lib.ListN.{length, take}
-use borrow.Author.Tests.{eqb-true, leb-false, lt-leb, lt-ltb, not-false}
-use lib.IntN.{pos, negℤ}
+use borrow.Author.Tests.{eqb-true, leb-false, lt-leb, lt-ltb, le-ltb, ltb-false, not-false}
+use lib.IntN.{ℤ, pos, negsuc, negℤ, natAbs}
 use lib.Signed.{ltZ, _≤ℤ_}
 use Rattle.distance.specs.Fix.{Fix, Bounded, After, none-after, later, Rising, no-fix, rising, last-of}
 use Rattle.distance.specs.Distance.{seconds}
@@ -23,7 +23,7 @@ use Rattle.record.specs.Laws.Head.{Head, says, accepted-head, not-few, n
 use Rattle.format.specs.Laws.Kinds.{kind-code}
 use Rattle.format.specs.Laws.Numbers.{false-true}
 use Rattle.format.specs.Laws.RoundTrip.{Reads, AreBytes, rewrites}
-use Rattle.distance.specs.Integers.Tests.{Test, holds, fails, test, neither}
+use Rattle.distance.specs.Integers.Tests.{Test, holds, fails, test, neither, ltb-more}
 
 -- ---- the fixes: checks 7 to 9 and 20 turn none away
 pub record GoodFixes (limit : ℕ) (l : List Fix) : Type 0 where
@@ -102,6 +102,19 @@ accept {K} {mark} {l} b r known m one few whole g =
     ∙ passes (says b) short-record from-6 (not-short b (omega arith))
     ∙ passes (says b) bad-mark [] (mark-passes b reads-mark) ∙ first-none (says b) in
     record { accepted = none-first (says b) head-checks fix-checks head ∙ good-fixes (kind-of b) (asked-of b nothing) (rw (r .fixes-read, kind) g) }
+
+-- ---- outside a limit: further from 0 than it
+pub outside-size : (limit : ℕ) (z : ℤ) → outside limit z ≡ ltb limit (natAbs z)
+outside-size zero (pos n) = rw (le-ltb n 0 (omega arith)) refl
+outside-size (suc l) (pos n) = refl
+outside-size zero (negsuc n) = sym (lt-ltb 0 (suc n) (omega arith))
+outside-size (suc l) (negsuc n) =
+    let e : l + 1 ≡ suc l = omega arith in
+    let f : n + 1 ≡ suc n = omega arith in
+    or-false (ltb l n) ∙ sym (rw (e, f) at (ltb-more 1 l n))
+
+pub inside-bound : (limit : ℕ) (z : ℤ) → outside limit z ≡ false → natAbs z ≤ limit
+inside-bound limit z h = ltb-false limit (natAbs z) (sym (outside-size limit z) ∙ h)
 
 -- ---- the checks of the fixes, as the layers above use them: places within the limit, times that rise, and a short span
 place-good : (limit : ℕ) (f : Fix) → fix-outside limit f ≡ false → Bounded limit f

@@ -8,13 +8,16 @@ use Prim.Native.Nat.{ℕ}
 use native.Mathlib.Omega.{arith}
 use Rattle.format.specs.Kinds.{Kind}
 use Rattle.record.specs.Answers.{gives, answer}
-use Rattle.record.specs.Checks.{Check, Given, Asked, number, order, first, FirstHolds, this, not-before, sentence, refusal, refusal-of, reading, writing, aging, aging-by-days, placing, crossing, loading, approaching, read-refusal}
+use Rattle.record.specs.Checks.{Check, Given, Asked, number, order, first, FirstHolds, this, not-before, sentence, refusal, refusal-of, reading, writing, aging, aging-by-days, placing, crossing, loading, approaching, anchoring, read-refusal}
 
-pub some-none : {k : ℕ} → some k ≡ none → ⊥
+pub some-none : {A : Type 0} {a : A} → some a ≡ none → ⊥
 some-none e = let z : _≡_ {A = ℕ} 0 1 = cc in omega arith
 
+pub some-same : {A : Type 0} {a b : A} → some a ≡ some b → a ≡ b
+some-same e = cc
+
 -- the checks in their order have the documents' numbers
-pub order-numbers : map number order ≡ 1 ∷ 2 ∷ 3 ∷ 4 ∷ 5 ∷ 6 ∷ 7 ∷ 8 ∷ 9 ∷ 20 ∷ 22 ∷ 23 ∷ 16 ∷ 10 ∷ 11 ∷ 12 ∷ 21 ∷ 13 ∷ 14 ∷ 15 ∷ []
+pub order-numbers : map number order ≡ 1 ∷ 2 ∷ 3 ∷ 4 ∷ 5 ∷ 6 ∷ 7 ∷ 8 ∷ 9 ∷ 20 ∷ 22 ∷ 23 ∷ 16 ∷ 10 ∷ 11 ∷ 12 ∷ 21 ∷ 13 ∷ 14 ∷ 15 ∷ 17 ∷ 18 ∷ 19 ∷ []
 order-numbers = refl
 
 module _ (says : Check → Bool) where
@@ -127,6 +130,11 @@ crossing-alone b g h e f k = rw (e, f, k) refl
 pub approaching-alone : (b : List ℕ) (g h : Given) → g .point ≡ h .point → g .radius ≡ h .radius → refusal-of approaching b g ≡ refusal-of approaching b h
 unfolding first sentence
 approaching-alone b g h e f = rw (e, f) refl
+
+-- the reading of an anchor looks at no bytes
+pub anchoring-alone : (b c : List ℕ) (g h : Given) → g .report ≡ h .report → refusal-of anchoring b g ≡ refusal-of anchoring c h
+unfolding first sentence
+anchoring-alone b c g h e = rw e refl
 
 pub writing-alone : (K : Kind) (p q : Asked) → p .count ≡ q .count → p .trail-fixes ≡ q .trail-fixes → p .given .output ≡ q .given .output → refusal K writing p ≡ refusal K writing q
 unfolding first sentence

@@ -14,7 +14,7 @@ use Rattle.format.specs.Format.{each}
 use Rattle.format.specs.Laws.Each.{each-more}
 use Rattle.record.specs.Checks.{Row, load-refusal}
 use Rattle.record.specs.Answers.{gives, turns-away}
-use Rattle.record.specs.Laws.First.{some-none}
+use Rattle.record.specs.Laws.First.{some-none, some-same}
 use Rattle.table.specs.Table.{last-row, days-give, tolerance-answer, IsLastRow}
 
 -- ---- one row more: it decides where its day isn't above, and else the rows before it do
@@ -50,9 +50,6 @@ day-refused rows d k h = rw h refl
 pub day-given : (rows : List Row) (d : ℕ) → load-refusal rows ≡ none → gives (days-give rows d) ≡ tolerance-answer rows d
 day-given rows d h = rw h refl
 
-same-some : {x y : ℕ} → some x ≡ some y → x ≡ y
-same-some e = cc
-
 -- ---- THE LAST ROW WHOSE DAY ISN'T ABOVE THE ASKED ONE
 module _ (d : ℕ) where
   abbrev Later : List Row → Type 0
@@ -78,7 +75,7 @@ module _ (d : ℕ) where
     where
       go : {b : Bool} → Test (r .day) d b → last-row (cond b (some (r .row-tolerance)) so-far) rows d ≡ some e
           → ((given : Option ℕ) → last-row given rows d ≡ some e → IsLastRow d e rows ⊎ ((given ≡ some e) × Later rows)) → IsLastRow d e (r ∷ rows) ⊎ ((so-far ≡ some e) × Later (r ∷ rows))
-      go (holds k) h rest = ⊎-elim (λ i. inl (one-more r i)) (λ (z, t). inl (record { before = []; row = r; after = rows; stands = refl; not-above = k; later = t; gives-it = same-some z })) (rest (some (r .row-tolerance)) h)
+      go (holds k) h rest = ⊎-elim (λ i. inl (one-more r i)) (λ (z, t). inl (record { before = []; row = r; after = rows; stands = refl; not-above = k; later = t; gives-it = some-same z })) (rest (some (r .row-tolerance)) h)
       go (fails k) h rest = ⊎-elim (λ i. inl (one-more r i)) (λ (z, t). inr (z, all-more k t)) (rest so-far h)
 
   -- a tolerance is given exactly if it is that of the last row whose day isn't above, ..

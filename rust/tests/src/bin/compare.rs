@@ -1,60 +1,102 @@
 //! Many random cases of all operations, by the C interface and by the plain version, and moved in time and of other
-//! kinds by the C interface again: `compare [--cases N] [--seed S]`. A difference is printed with the smallest
-//! trail found that shows it, and the exit status is 1.
+//! kinds by the C interface again, and many more readings of anchors: `compare [--cases N] [--readings N] [--seed S]`. A
+//! difference is printed with the smallest trail found that shows it, and the exit status is 1.
 #![forbid(unsafe_code)]
 
 use std::process::ExitCode;
 
 use trails_tests::cases::Settings;
-use trails_tests::compare::{plain, proved, recast, run, twin, Case, Outcome, Sides};
+use trails_tests::compare::{plain, proved, readings, recast, run, twin, Case, Outcome, Sides};
 
-const USUAL: Settings = Settings {
-    seed: 20_240_229,
+/// How many of each are tried.
+struct Asked {
+    cases: usize,
+    readings: usize,
+    seed: u64,
+}
+
+const USUAL: Asked = Asked {
     cases: 30_000,
+    readings: 1_000_000,
+    seed: 20_240_229,
 };
 
 fn main() -> ExitCode {
     let arguments: Vec<String> = std::env::args().skip(1).collect();
-    let settings = match settings(&arguments) {
-        Some(settings) => settings,
-        None => {
-            eprintln!("usage: compare [--cases N] [--seed S]");
-            return ExitCode::from(2);
-        }
+    let Some(asked) = asked(&arguments) else {
+        eprintln!("usage: compare [--cases N] [--readings N] [--seed S]");
+        return ExitCode::from(2);
     };
-    println!("{} cases, seed {}", settings.cases, settings.seed);
-    let sides = Sides {
-        proved: &proved,
-        plain: &plain,
+    let Asked {
+        cases,
+        readings,
+        seed,
+    } = asked;
+    println!("{cases} cases and {readings} readings, seed {seed}");
+    let missing = match records(Settings { seed, cases }) {
+        Some(missing) => missing,
+        None => return ExitCode::FAILURE,
     };
-    let met = match run(settings, sides) {
-        Ok(met) => met,
-        Err(case) => {
-            show(&case);
-            return ExitCode::FAILURE;
-        }
+    let cases = readings;
+    let more = match anchors(Settings { seed, cases }) {
+        Some(missing) => missing,
+        None => return ExitCode::FAILURE,
     };
-    println!("{met}");
-    let missing = met.missing();
+    let missing = [missing, more].concat();
     for what in &missing {
         println!("never met: {what}");
     }
     ExitCode::from(u8::from(!missing.is_empty()))
 }
 
-fn settings(arguments: &[String]) -> Option<Settings> {
-    let mut settings = USUAL;
+fn asked(arguments: &[String]) -> Option<Asked> {
+    let mut asked = USUAL;
     for pair in arguments.chunks(2) {
         let [name, value] = pair else {
             return None;
         };
         match name.as_str() {
-            "--cases" => settings.cases = value.parse().ok()?,
-            "--seed" => settings.seed = value.parse().ok()?,
+            "--cases" => asked.cases = value.parse().ok()?,
+            "--readings" => asked.readings = value.parse().ok()?,
+            "--seed" => asked.seed = value.parse().ok()?,
             _ => return None,
         }
     }
-    Some(settings)
+    Some(asked)
+}
+
+/// Tries cases of records, and prints what was met, or a difference. Gives what should have been met and wasn't.
+fn records(settings: Settings) -> Option<Vec<String>> {
+    let sides = Sides {
+        proved: &proved,
+        plain: &plain,
+    };
+    match run(settings, sides) {
+        Ok(met) if settings.cases > 0 => {
+            println!("{met}\n");
+            Some(met.missing())
+        }
+        Ok(_) => Some(Vec::new()),
+        Err(case) => {
+            show(&case);
+            None
+        }
+    }
+}
+
+/// The same of readings.
+fn anchors(settings: Settings) -> Option<Vec<String>> {
+    match readings::run(settings, readings::PROVED) {
+        Ok(met) if settings.cases > 0 => {
+            println!("{met}");
+            Some(met.missing())
+        }
+        Ok(_) => Some(Vec::new()),
+        Err(difference) => {
+            println!("a difference:\n{difference}");
+            None
+        }
+    }
 }
 
 fn hex(bytes: &[u8]) -> String {

@@ -48,7 +48,7 @@ impl Whereabouts {
 
 /// "the nearest whole number", and of document 02's item 1 "halves away from zero": n/d and a half more on its own side of 0,
 /// cut off towards 0.
-fn rounded(n: i128, d: i128) -> i128 {
+pub(super) fn rounded(n: i128, d: i128) -> i128 {
     (2 * n + n.signum() * d) / (2 * d)
 }
 

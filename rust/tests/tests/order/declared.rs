@@ -37,13 +37,20 @@ fn without_comments(text: &str) -> String {
     lines.collect::<Vec<_>>().join("\n")
 }
 
+/// A struct's name in Rust: of `anchor_state`, `AnchorState`.
+fn struct_name(c: &str) -> String {
+    let word = |word: &str| word[..1].to_uppercase() + &word[1..];
+    c.split('_').map(word).collect()
+}
+
 /// A C type in Rust's words: `const uint8_t *` is `*const u8`, and `struct trails_head` is `Head`.
 fn kind(c: &str) -> String {
     let word = c.replace("const ", "").replace('*', "");
     let word = word.trim();
     let kind = match word.strip_prefix("struct trails_") {
-        Some(name) => name[..1].to_uppercase() + &name[1..],
+        Some(name) => struct_name(name),
         None if word == "size_t" => "usize".to_string(),
+        None if word == "float" => "f32".to_string(),
         None => {
             let bits = word.trim_end_matches("_t");
             bits.replace("uint", "u").replace("int", "i")

@@ -2,7 +2,8 @@
 
 use std::mem::{offset_of, size_of};
 
-use trails_tests::interface::{numbers, numbers_near, Answer, Applied, Approach, Crossing, Head};
+use trails_tests::interface::{bits, numbers, numbers_anchored, numbers_near};
+use trails_tests::interface::{AnchorState, Anchored, Answer, Applied, Approach, Crossing, Head};
 use trails_tests::interface::{Loaded, Place, Row, Run, Step, Table};
 use trails_tests::plain::approach;
 use trails_tests::plain::place::Time;
@@ -26,7 +27,7 @@ macro_rules! layout {
     };
 }
 
-pub fn layouts() -> [Layout; 11] {
+pub fn layouts() -> [Layout; 13] {
     [
         layout!("trails_head", Head: refusal, kind, count, mark),
         layout!("trails_step", Step: refusal, found, kind, t, x, y, silence),
@@ -39,6 +40,8 @@ pub fn layouts() -> [Layout; 11] {
         layout!("trails_place", Place: refusal, denominator, x, y, whole_x, whole_y),
         layout!("trails_crossing", Crossing: refusal, crosses, numerator, denominator),
         layout!("trails_approach", Approach: refusal, approaches, leg, numerator, denominator),
+        layout!("trails_anchor_state", AnchorState: x, y, seen),
+        layout!("trails_anchored", Anchored: refusal, x, y, state),
     ]
 }
 
@@ -95,6 +98,14 @@ pub fn of_crossing(answer: Crossing) -> Vec<i64> {
 
 pub fn of_approach(answer: Approach) -> Vec<i64> {
     by_value(&numbers_near(answer).map(|n| n as i64))
+}
+
+pub fn of_state(state: AnchorState) -> Vec<i64> {
+    bits(state).map(i64::from).into()
+}
+
+pub fn of_anchored(answer: Anchored) -> Vec<i64> {
+    numbers_anchored(answer).into()
 }
 
 fn thousandths(time: Time) -> i64 {

@@ -7,7 +7,7 @@ use trails_tests::programs;
 
 use crate::declared::{Function, Parameter};
 use crate::fields::{by_value, layouts, Layout};
-use crate::lent::{agings, arguments, rows, Lent, OUTPUT_BYTES, ROOM};
+use crate::lent::{agings, arguments, readings, rows, Lent, OUTPUT_BYTES, ROOM};
 
 /// What a C program prints, of which this is the part after the header.
 pub fn printed(name: &str, source: &str) -> String {
@@ -31,9 +31,10 @@ impl InC {
     pub fn of(function: Function) -> InC {
         let given = arguments();
         let argument = |Parameter { name, kind }: &Parameter| {
-            // what is lent has its parameter's name
+            // what is lent has its parameter's name, and two columns of floats a name of their own beside those of numbers
             if kind.starts_with('*') {
-                return name.clone();
+                let floats = if kind.ends_with("f32") { "float_" } else { "" };
+                return format!("{floats}{name}");
             }
             let found = given.iter().find(|(given, _)| given == name);
             let found = found.unwrap_or_else(|| panic!("{name} is given no value"));
@@ -54,7 +55,7 @@ impl InC {
         let Some(Layout { c, fields, .. }) = found else {
             return format!("{{ prepare(); size_t a = {call}; number(a); rest(); }}\n");
         };
-        let fields: String = fields.iter().map(|(name, _)| field(name)).collect();
+        let fields: String = fields.iter().map(|(name, _)| field(c, name)).collect();
         format!("{{ prepare(); struct {c} a = {call}; {fields}rest(); }}\n")
     }
 
@@ -76,11 +77,13 @@ fn in_thousandths(numbers: &[i64], fields: usize) -> Vec<i64> {
     [&by_value(answer), lent].concat()
 }
 
-/// Prints a field of an answer: its number, or all numbers that it has.
-fn field(name: &str) -> String {
-    match name {
-        "rows" => "rows(a.rows); ".to_string(),
-        "table" => "number(a.table.count); rows(a.table.rows); ".to_string(),
+/// Prints a field of an answer: its number, or all numbers that it has, of a float the bits.
+fn field(of: &str, name: &str) -> String {
+    match (of, name) {
+        (_, "rows") => "rows(a.rows); ".to_string(),
+        (_, "table") => "number(a.table.count); rows(a.table.rows); ".to_string(),
+        (_, "state") => "bits(a.state.x); bits(a.state.y); number(a.state.seen); ".to_string(),
+        ("trails_anchor_state", "x" | "y") => format!("bits(a.{name}); "),
         _ => format!("number((long long)a.{name}); "),
     }
 }
@@ -102,7 +105,7 @@ fn lent() -> String {
     let Lent {
         record, columns, ..
     } = Lent::new();
-    let (list, rows) = (agings(), rows());
+    let (list, rows, readings) = (agings(), rows(), readings());
     let arrays = [
         array("uint8_t", "record", &record),
         array("uint32_t", "t", &columns.t),
@@ -113,6 +116,9 @@ fn lent() -> String {
         array("uint16_t", "tables", &list.tables),
         array("uint16_t", "days", &rows.days),
         array("uint16_t", "tolerances", &rows.tolerances),
+        array("uint8_t", "step", &readings.step),
+        array("float", "float_x", &readings.x),
+        array("float", "float_y", &readings.y),
     ];
     let [declared, prepared] = [0, 1].map(|k| arrays.each_ref().map(|array| &*array[k]).concat());
     format!(
@@ -124,7 +130,7 @@ static void prepare(void) {{
     )
 }
 
-/// What prints a number, a table's rows, and all that may have been written.
+/// What prints a number, a float's bits, a table's rows, and all that may have been written.
 fn printing() -> String {
     let Lent {
         record, columns, ..
@@ -132,6 +138,7 @@ fn printing() -> String {
     let (bytes, many) = (record.len(), columns.t.len());
     format!(
         "static void number(long long n) {{ printf(\"%lld \", n); }}
+#define bits(of) {{ uint32_t n; memcpy(&n, &(of), sizeof n); number(n); }}
 #define rows(of) for (unsigned k = 0; k < TRAILS_ROWS; k++) {{ \\
     number((of)[k].day); number((of)[k].tolerance); }}
 static void rest(void) {{

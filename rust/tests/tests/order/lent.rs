@@ -3,13 +3,15 @@
 //! No two values are so that exchanging them goes unseen, where their types would allow it.
 
 use trails_tests::columns::Columns;
-use trails_tests::interface::{by_table, LONGEST_TEXT};
+use trails_tests::interface::{by_table, AnchorState, LONGEST_TEXT};
+use trails_tests::plain::anchors::Reading;
 use trails_tests::plain::approach::Circle;
 use trails_tests::plain::crossing::{Area, Question, Window};
 use trails_tests::plain::kinds::SILENCES;
 use trails_tests::plain::lists::List;
 use trails_tests::plain::table::{Row, Table};
 use trails_tests::plain::{Fix, Trail};
+use trails_tests::readings::ReadingColumns;
 use trails_tests::tables::RowColumns;
 
 pub const POSITION: usize = 2;
@@ -101,6 +103,44 @@ pub const CIRCLE: Circle = Circle {
     radius: 60,
 };
 
+/// An anchor's state, and a step from it. An absolute place is the circle's.
+pub const STATE: AnchorState = AnchorState {
+    x: 12.25,
+    y: -7.5,
+    seen: 1,
+};
+pub const STEP: [f32; 2] = [0.5, 3.0625];
+
+/// How many are lent of the columns of readings.
+pub const READING_COUNTS: [usize; 3] = [4, COUNTS[1], COUNTS[2]];
+
+/// Readings as a list: two steps, so that the state counts, and two more that not all columns are lent for.
+pub fn readings() -> ReadingColumns {
+    ReadingColumns::of(&[
+        Reading::Step(0.25, 20.5),
+        Reading::Step(100.0, -3.5),
+        Reading::Absolute(7.0, 8.0),
+        Reading::Step(1.0, 1.0),
+    ])
+}
+
+/// The parts of them that are lent.
+pub fn lent_readings() -> ReadingColumns {
+    let ReadingColumns { step, x, y } = readings();
+    let [a, b, c] = READING_COUNTS;
+    ReadingColumns {
+        step: step[..a].to_vec(),
+        x: x[..b].to_vec(),
+        y: y[..c].to_vec(),
+    }
+}
+
+/// The state, for C.
+pub fn state_in_c() -> String {
+    let AnchorState { x, y, seen } = STATE;
+    format!("(struct trails_anchor_state){{{x}, {y}, {seen}}}")
+}
+
 /// What stands in the columns beforehand, and is a list to write.
 const COLUMNS: [(u32, i32, i32, u8); 5] = [
     (7, 1, -5, 0),
@@ -142,6 +182,10 @@ pub fn arguments() -> Vec<(&'static str, String)> {
         ("x", CIRCLE.x.to_string()),
         ("y", CIRCLE.y.to_string()),
         ("radius", CIRCLE.radius.to_string()),
+        ("state", state_in_c()),
+        ("dx", STEP[0].to_string()),
+        ("dy", STEP[1].to_string()),
+        ("step_count", READING_COUNTS[0].to_string()),
     ]
 }
 

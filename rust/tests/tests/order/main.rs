@@ -9,11 +9,13 @@ mod in_c;
 mod lent;
 
 use declared::{in_header, in_rust, Function};
-use fields::{layouts, of_answer, of_applied, of_approach, of_crossing, of_first, of_head};
-use fields::{of_loaded, of_place, of_run, of_step, of_table, of_time, Layout};
+use fields::{layouts, of_anchored, of_answer, of_applied, of_approach, of_crossing, of_first};
+use fields::{of_head, of_loaded, of_place, of_run, of_state, of_step, of_table, of_time, Layout};
 use in_c::{from_c, printed, InC};
 use lent::{agings, lent_rows, table, Lent, BEFORE_SILENCE, COUNTS, DAYS, OUTPUT_BYTES, POSITION};
-use lent::{CIRCLE, QUESTION, ROW_COUNTS, SECOND, THOUSANDTHS, TOLERANCE};
+use lent::{lent_readings, state_in_c, CIRCLE, QUESTION, READING_COUNTS, ROW_COUNTS, SECOND};
+use lent::{STATE, STEP, THOUSANDTHS, TOLERANCE};
+use trails_tests::plain::anchors::Reading;
 use trails_tests::plain::kinds::{Kind, CENTIMETRES, MILLIMETRES, SILENCES};
 use trails_tests::plain::lists::{self, Call};
 use trails_tests::plain::table::{Table, NUMBERS, ROWS};
@@ -87,7 +89,7 @@ fn refusals_stand_in_checking_order() {
     let number = |line: &str| line.split_once(" = ").map(|(_, after)| first_number(after));
     let numbers: Vec<u32> = all.lines().filter_map(number).collect();
     let order = [
-        0, 1, 2, 3, 4, 5, 6, 7, 8, 9, 20, 22, 23, 16, 10, 11, 12, 21, 13, 14, 15,
+        0, 1, 2, 3, 4, 5, 6, 7, 8, 9, 20, 22, 23, 16, 10, 11, 12, 21, 13, 14, 15, 17, 18, 19,
     ];
     assert_eq!(numbers, order);
 }
@@ -125,9 +127,22 @@ fn plainly(name: &str) -> Vec<i64> {
         "trails_run" => of_run(expected::run(record, &list)),
         "trails_crosses_after" => of_time(lists::crosses_after(record, &list.all(), &QUESTION)),
         "trails_near_after" => of_first(lists::near_after(record, &list.all(), &CIRCLE)),
+        "trails_anchor_absolute" => of_anchored(expected::anchor(STATE, absolute())),
+        "trails_anchor_step" => of_anchored(expected::anchor(STATE, step())),
+        "trails_anchor_all" => of_state(expected::anchor_all(STATE, &lent_readings())),
         other => panic!("{other} isn't tried here"),
     };
     [answer, lent.numbers()].concat()
+}
+
+/// The circle's point as an anchor sends it: these parameters have the same names.
+fn absolute() -> Reading {
+    Reading::Absolute(CIRCLE.x as f32, CIRCLE.y as f32)
+}
+
+fn step() -> Reading {
+    let [dx, dy] = STEP;
+    Reading::Step(dx, dy)
 }
 
 fn plain_read_all(lent: &mut Lent) -> Vec<i64> {
@@ -183,6 +198,9 @@ fn from_rust(name: &str) -> Vec<i64> {
             of_crossing(interface::crosses_after(record, &agings(), &QUESTION))
         }
         "trails_near_after" => of_approach(interface::near_after(record, &agings(), &CIRCLE)),
+        "trails_anchor_absolute" => of_anchored(interface::anchor(STATE, absolute())),
+        "trails_anchor_step" => of_anchored(interface::anchor(STATE, step())),
+        "trails_anchor_all" => of_state(interface::anchor_all(STATE, &lent_readings())),
         other => panic!("{other} isn't tried here"),
     };
     [answer, lent.numbers()].concat()
@@ -264,8 +282,17 @@ fn other_lengths_written(columns: &[&str]) -> Vec<String> {
         .collect()
 }
 
+/// The columns of readings, after the state, with each two of their lengths exchanged.
+fn other_lengths_read() -> Vec<String> {
+    let columns = ["step", "float_x", "float_y"];
+    let lent = other_lengths(&columns, &READING_COUNTS).into_iter();
+    lent.map(|lent| format!("{}, {lent}", state_in_c()))
+        .collect()
+}
+
 /// So that the values are no accident: with any two exchanged, something else comes of the call. Of a writer's columns,
-/// and of those of a table, the shortest counts, whichever it is, so of their lengths no exchange is seen by calls.
+/// and of those of a table and of readings, the shortest counts, whichever it is, so of their lengths no exchange is seen
+/// by calls.
 #[test]
 fn each_exchange_of_two_arguments_would_be_seen() {
     let calls: Vec<InC> = in_header().iter().flat_map(exchanged).collect();
@@ -278,7 +305,11 @@ fn each_exchange_of_two_arguments_would_be_seen() {
     let three = other_lengths_written(&["t", "x", "y"]);
     let four = other_lengths_written(&["t", "x", "y", "silence"]);
     let rows = other_lengths(&["days", "tolerances"], &ROW_COUNTS);
-    assert_eq!(unseen, [three.clone(), three, four, rows].concat());
+    let readings = other_lengths_read();
+    assert_eq!(
+        unseen,
+        [three.clone(), three, four, rows, readings].concat()
+    );
     println!(
         "order: {} exchanges, {} seen",
         calls.len(),

@@ -1,6 +1,7 @@
 //! Runs the built command with good, bad and hostile input.
 #![forbid(unsafe_code)]
 
+mod anchors;
 mod answers;
 mod approaches;
 mod folder;

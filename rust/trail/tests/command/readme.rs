@@ -28,6 +28,8 @@ fn walk() -> Vec<(String, String)> {
 /// A folder that is like a clone after `./demo`, which stands here for a script that has nothing left to do.
 fn clone() -> Folder {
     let folder = Folder::new();
+    let examples = folder.path().join("examples");
+    symlink(project().join("examples"), examples).expect("a link");
     folder.put("demo", "#!/bin/sh\n");
     let run = fs::Permissions::from_mode(0o755);
     fs::set_permissions(folder.path().join("demo"), run).expect("it is ours");

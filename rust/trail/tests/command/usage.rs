@@ -31,7 +31,7 @@ fn help_is_printed_for_the_command_and_each_of_its_commands() {
 }
 
 /// Words that no command takes. There is a trail `h`.
-const WRONG: [&str; 64] = [
+const WRONG: [&str; 66] = [
     "",
     "lists h",
     "list",
@@ -45,6 +45,8 @@ const WRONG: [&str; 64] = [
     "write h -o",
     "write --json h -o -",
     "write --millimetres=1 h -o t",
+    "write --anchors=1 h -o t",
+    "age --anchors --days 3 h",
     "age --millimetres --days 3 h",
     "age --silence-after 3 --days 3 h",
     "write --silence-after h -o t",
@@ -339,7 +341,7 @@ fn words_that_are_not_utf8_are_no_crash() {
 }
 
 /// Words that may follow each other in any way.
-const WORDS: [&str; 31] = [
+const WORDS: [&str; 32] = [
     "--json",
     "--force",
     "--millimetres",
@@ -353,6 +355,7 @@ const WORDS: [&str; 31] = [
     "--original",
     "--table",
     "--table=-",
+    "--anchors",
     "-o",
     "-",
     "--",

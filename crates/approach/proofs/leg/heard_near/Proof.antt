@@ -8,7 +8,7 @@ use mir.Syntax.{w64}
 use mir.Val.{toZ, ofZ}
 use mir.Facts.{toZ-ofZ}
 use Rattle.distance.specs.Fix.{fixOf}
-use Rattle.approach.specs.Answers.{pointOf}
+use Rattle.distance.specs.Place.{pointOf}
 use Rattle.approach.specs.Approach.{toward, along, dot}
 use Rattle.approach.specs.Laws.Ranges.{Short, short-start, short-end, short-leg, products-fit}
 use Rattle.approach.specs.Laws.Tests.{positive, heard-start, heard-end, heard-foot}

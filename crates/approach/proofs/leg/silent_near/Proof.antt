@@ -1,6 +1,6 @@
 use mathlib.Core.Path.{sym, _∙_}
 use Rattle.distance.specs.Fix.{fixOf}
-use Rattle.approach.specs.Answers.{pointOf}
+use Rattle.distance.specs.Place.{pointOf}
 use Rattle.approach.specs.Laws.Ranges.{Short, short-start, short-end}
 use Rattle.approach.specs.Laws.Tests.{silent-start, silent-end}
 use borrow.Author.Needs.{needs}

@@ -8,7 +8,8 @@ use Rattle.record.specs.Answers.{gives}
 use Rattle.record.specs.Laws.Trail.{lent, reaches}
 use Rattle.approach.specs.declared.Part.{Part}
 use Rattle.approach.specs.declared.Approach.{Approach}
-use Rattle.approach.specs.Answers.{pointOf, nearing}
+use Rattle.distance.specs.Place.{pointOf}
+use Rattle.approach.specs.Answers.{nearing}
 use Rattle.approach.specs.Approach.{leg-near, told-on}
 use Rattle.approach.specs.Laws.Search.{ToldFits, lone-leg, lone-told}
 use borrow.Author.Needs.{needs}

@@ -1,7 +1,7 @@
 use mathlib.Core.Path.{sym, _∙_, ap}
 use denote.Ref.{now}
 use Rattle.record.specs.Answers.{refused}
-use Rattle.approach.specs.Answers.{pointOf}
+use Rattle.distance.specs.Place.{pointOf}
 use Rattle.approach.specs.Laws.Checking.{refused-means, asked-means}
 use borrow.Author.Needs.{needs}
 use Rattle.approach.proofs.trail.near.Statement.{statement}

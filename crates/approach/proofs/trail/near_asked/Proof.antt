@@ -6,7 +6,7 @@ use denote.Ref.{now}
 use Rattle.format.specs.Format.{count-field}
 use Rattle.record.specs.Laws.Head.{Head}
 use Rattle.record.specs.Laws.Accepted.{accepted-good}
-use Rattle.approach.specs.Answers.{pointOf}
+use Rattle.distance.specs.Place.{pointOf}
 use Rattle.approach.specs.Laws.Checking.{Askable, near-passed, lone-gives, first-gives}
 use Rattle.approach.proofs.trail.near_asked.Statement.{statement}
 use Rattle.approach.proofs.trail.near_asked.Tie as tie

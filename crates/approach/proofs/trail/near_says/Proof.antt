@@ -6,7 +6,7 @@ use Rattle.format.specs.Format.{kind-of}
 use Rattle.record.specs.Answers.{refused}
 use Rattle.record.specs.Checks.{IsAccepted}
 use Rattle.record.specs.Laws.Head.{accepted-head}
-use Rattle.approach.specs.Answers.{pointOf}
+use Rattle.distance.specs.Place.{pointOf}
 use Rattle.approach.specs.Laws.Checking.{point-outside, near-refused, near-16, near-none}
 use borrow.Author.Needs.{needs}
 use Rattle.approach.proofs.trail.near_says.Statement.{statement}

@@ -8,7 +8,7 @@ use Rattle.format.specs.Laws.RoundTrip.{AreBytes, are-bytes}
 use Rattle.record.specs.Answers.{refused}
 use Rattle.distance.specs.Fix.{Fix}
 use Rattle.approach.specs.declared.Approach.{Approach}
-use Rattle.approach.specs.Answers.{pointOf}
+use Rattle.distance.specs.Place.{pointOf}
 use Rattle.approach.specs.Approach.{near-refusal, first-near}
 use Rattle.questions.specs.Agings.{calls-of}
 use Rattle.questions.specs.Laws.Asked.{refused-after, not-refused-after, made-after, near-alike}
