@@ -1,19 +1,22 @@
 -- The sum of two floats that are whole numbers of sixteenths: while these together are fewer than 2²⁴ it is exact.
-use Prim.Native.Nat.{ℕ, zero, suc, _+_, _*_, _-_, _^_, _≤_, _<_}
+use Prim.Native.Nat.{ℕ, _+_, _*_, _-_, _^_, _≤_, _<_}
 use mathlib.Core.Path.{_≡_, refl, sym, ap, subst, _∙_}
 use mathlib.Core.Bool.{Bool, true, false}
+use mathlib.Core.List.{[], _∷_}
 use mathlib.Core.Logic.{⊎-elim, _⊎_, inl, inr}
 use mathlib.Core.Option.{some}
 use native.Mathlib.Omega.{arith}
 use native.Mathlib.Nat.{mul-assoc, mul-comm, mul-right-comm, mul-pos, add-mul, mul-sub, mul-lt-mul-of-pos-right, mul-le-mul-right, lt-of-lt-of-le}
 use borrow.Author.Tests.{lt-ltb, le-ltb, ltb-true, ltb-false}
 use lib.Dec.{ltb, lit<, lit≤}
-use lib.IntN.{ℤ, pos, negsuc, negℤ, natAbs, subℕ, _+ℤ_}
+use lib.IntN.{ℤ, pos, negℤ, natAbs, _+ℤ_}
 use lib.Pow.{shl-lt}
 use lib.Ieee.{Float, nan, inf, fin, binary32, up, down, round, sum, add}
 use lib.Ieee.Fits.{down-pos}
 use lib.Ieee.Exact.{HasValue, round-exact}
 use lib.Ieee.Scale.{round-same}
+use Rattle.distance.specs.Integers.Differences.{pos-sub}
+use Rattle.distance.specs.Integers.Ring.{ring, quotes, vars}
 use Rattle.anchors.specs.Anchors.{negative-if, sixteenths, IsSixteenths}
 use Rattle.anchors.specs.Laws.Sixteenths.{magnitude-of, is-sixteenths, sixteenths-is}
 
@@ -33,28 +36,17 @@ either a b = go (ltb a b) refl
     go true e = inl (ltb-true a b e)
     go false e = inr (ltb-false a b e)
 
-less : (a b : ℕ) → pos a +ℤ negℤ (pos b) ≡ subℕ a b
-less a zero = rw (le-ltb a 0 (omega arith)) (ap pos (omega arith))
-less a (suc b) = refl
+above : (a b : ℕ) → b ≤ a → pos (a - b) ≡ pos a +ℤ negℤ (pos b)
+above a b h = sym (pos-sub b a h)
 
-less-turned : (a b : ℕ) → negℤ (pos a) +ℤ pos b ≡ subℕ b a
-less-turned zero b = rw (le-ltb b 0 (omega arith)) (ap pos (omega arith))
-less-turned (suc a) b = refl
+below : (a b : ℕ) → a ≤ b → negℤ (pos (b - a)) ≡ pos a +ℤ negℤ (pos b)
+below a b h = ap negℤ (sym (pos-sub a b h)) ∙ vars (pos a ∷ pos b ∷ []) (λ ρ v. simp (v 0, v 1, quotes) (ring _ _ ρ tt))
 
-opposite : (n k : ℕ) → n ≡ suc k → negℤ (pos n) ≡ negsuc k
-opposite n k e = ap (λ (j : ℕ). negℤ (pos j)) e
+turned : (a b : ℕ) → pos b +ℤ negℤ (pos a) ≡ negℤ (pos a) +ℤ pos b
+turned a b = vars (pos a ∷ pos b ∷ []) (λ ρ v. simp (v 0, v 1, quotes) (ring _ _ ρ tt))
 
-below : (a b : ℕ) → a < b → negℤ (pos (b - a)) ≡ subℕ a b
-below a b h = rw (lt-ltb a b h) (opposite (b - a) (b - suc a) (omega arith))
-
-above : (a b : ℕ) → b ≤ a → pos (a - b) ≡ subℕ a b
-above a b h = rw (le-ltb a b h) refl
-
-opposites : (a b : ℕ) → negℤ (pos (a + b)) ≡ negℤ (pos a) +ℤ negℤ (pos b)
-opposites zero zero = refl
-opposites zero (suc b) = ap (λ (j : ℕ). negℤ (pos j)) {x = zero + suc b} {y = suc b - 0} (omega arith) ∙ below 0 (suc b) (omega arith)
-opposites (suc a) zero = ap (λ (j : ℕ). negℤ (pos j)) {x = suc a + zero} {y = suc a - 0} (omega arith) ∙ below 0 (suc a) (omega arith)
-opposites (suc a) (suc b) = opposite (suc a + suc b) (suc (a + b)) (omega arith)
+opposites : (a b : ℕ) → negℤ (pos a +ℤ pos b) ≡ negℤ (pos a) +ℤ negℤ (pos b)
+opposites a b = vars (pos a ∷ pos b ∷ []) (λ ρ v. simp (v 0, v 1, quotes) (ring _ _ ρ tt))
 
 -- ---- ±A/C and ±B/C, which are ±a/16 and ±b/16
 module _ (A B C a b : ℕ) (p : 0 < C) (ea : A * 16 ≡ a * C) (eb : B * 16 ≡ b * C) where
@@ -78,23 +70,23 @@ module _ (A B C a b : ℕ) (p : 0 < C) (ea : A * 16 ≡ a * C) (eb : B * 16 ≡ 
   of-signs false true =
       ⊎-elim
       (λ (l : a < b). rw (lt-ltb A B (smaller A B C a b p ea eb l))
-      (record { negative = true; n = b - a; value = taken A B C a b p ea eb true (omega arith); is = below a b l ∙ sym (less a b) }))
+      (record { negative = true; n = b - a; value = taken A B C a b p ea eb true (omega arith); is = below a b (omega arith) }))
       (λ (g : b ≤ a). rw (le-ltb A B (no-smaller A B C a b p ea eb g))
-      (record { negative = false; n = a - b; value = taken B A C b a p eb ea false (omega arith); is = above a b g ∙ sym (less a b) }))
+      (record { negative = false; n = a - b; value = taken B A C b a p eb ea false (omega arith); is = above a b g }))
       (either a b)
   of-signs true false =
       ⊎-elim
       (λ (l : a < b). rw (lt-ltb A B (smaller A B C a b p ea eb l))
-      (record { negative = false; n = b - a; value = taken A B C a b p ea eb false (omega arith); is = above b a (omega arith) ∙ sym (less-turned a b) }))
+      (record { negative = false; n = b - a; value = taken A B C a b p ea eb false (omega arith); is = above b a (omega arith) ∙ turned a b }))
       (λ (g : b ≤ a). rw (le-ltb A B (no-smaller A B C a b p ea eb g))
-      (record { negative = ltb B A; n = a - b; value = taken B A C b a p eb ea (ltb B A) (omega arith); is = nothing-negative g ∙ sym (less-turned a b) }))
+      (record { negative = ltb B A; n = a - b; value = taken B A C b a p eb ea (ltb B A) (omega arith); is = nothing-negative g ∙ turned a b }))
       (either a b)
     where
       -- where the two are as large their sum is +0, whose sign the machine takes from neither
-      nothing-negative : b ≤ a → negative-if (ltb B A) (a - b) ≡ subℕ b a
+      nothing-negative : b ≤ a → negative-if (ltb B A) (a - b) ≡ pos b +ℤ negℤ (pos a)
       nothing-negative g =
           ⊎-elim
-          (λ (l : b < a). ap (λ (t : Bool). negative-if t (a - b)) (lt-ltb B A (smaller B A C b a p eb ea l)) ∙ below b a l)
+          (λ (l : b < a). ap (λ (t : Bool). negative-if t (a - b)) (lt-ltb B A (smaller B A C b a p eb ea l)) ∙ below b a g)
           (λ (k : a ≤ b). ap (λ (t : Bool). negative-if t (a - b)) (le-ltb B A (no-smaller B A C b a p eb ea k)) ∙ ap pos {x = a - b} {y = b - a} (omega arith) ∙ above b a k)
           (either b a)
 
