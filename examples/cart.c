@@ -1,6 +1,6 @@
 /* One cart's trail from C: written, listed, aged over some days, by the built-in table
  * and by a hall's own, and asked about; the same with a silence in it; the same in
- * millimetres; and a cart that an anchor in the ceiling sees.
+ * millimetres; a cart that an anchor in the ceiling sees; and the trail that costs most.
  *
  *   rt staticlib export
  *   cc -I include examples/cart.c target/staticlib/libexport.a -o cart && ./cart
@@ -205,6 +205,18 @@ static void anchored(void) {
     printf("three at once: %.4f, %.4f\n", state.x, state.y);
 }
 
+/* What a controller must be sized for, if its trails have so many fixes. Every fix stays,
+ * so that it costs as much again. */
+static void dearest(size_t n) {
+    struct trails_answer written = trails_dearest(n, record, sizeof record);
+    if (written.refusal != TRAILS_ACCEPTED) {
+        printf("%zu fixes: refused %u\n", n, (unsigned)written.refusal);
+        return;
+    }
+    aged("at most", trails_age(record, sizeof record, 1));
+    aged("and again", trails_age(record, sizeof record, 1));
+}
+
 int main(void) {
     const uint64_t calls[] = {12, 32001, TRAILS_BY_TABLE(0, 7), TRAILS_BY_TABLE(1, 14)};
     struct trails_answer written =
@@ -239,5 +251,7 @@ int main(void) {
     with_silences();
     in_millimetres();
     anchored();
+    dearest(FIXES);
+    dearest(4097);
     return 0;
 }

@@ -308,7 +308,7 @@ struct trails_head trails_check(const uint8_t *record, size_t lent);
  * Each call checks the whole record; trails_read_all checks once for all fixes. */
 struct trails_step trails_read(const uint8_t *record, size_t lent, size_t position);
 
-/* Reads all fixes of the record: the inverse of the three writers. Makes checks 1 to
+/* Reads all fixes of the record: the inverse of the three writers of a list. Makes checks 1 to
  * 9 and 20. Where none fails, value is the record's count, and fix k goes to t[k],
  * x[k] and y[k], in the record's unit, which trails_check tells, and to silence[k],
  * which is 1 if a silence follows it and else 0. Each column, for itself, gets as many
@@ -347,6 +347,17 @@ struct trails_answer trails_write_silences(const uint32_t *t, size_t t_count,
                                            const uint8_t *silence, size_t silence_count,
                                            uint8_t *output, size_t output_bytes);
 
+/* Writes the record of the dearest trail of n fixes, for sizing a controller. Aging it at
+ * tolerance 1 measures (n - 1) * (n - 2) / 2 inner fixes, and no record of n fixes, of
+ * whatever kind and at whatever tolerance, measures more; and its splits nest as deep as
+ * any can. Every fix stays, so only the mark changes, and it can be aged so again. Its
+ * fix i, counted from 0, is at second i, x 0, and y n - 1 - i for even i and minus that
+ * for odd; its kind is 1, and it is marked never thinned. Makes checks 3 and 15, in this
+ * order. Where none fails, value is the record's length, 10 + 8 * n, the first value
+ * bytes of the output are the record, and its later bytes are as before. n may be any
+ * number, and the output of any length. */
+struct trails_answer trails_dearest(size_t n, uint8_t *output, size_t output_bytes);
+
 /* The listing of the lent bytes, as text for people: "trail", the count and the
  * mark or "never"; a line "fix" with time, x and y for each fix, and "silence" where
  * one follows; and "end". Lengths are in the record's unit, which the text doesn't
@@ -379,7 +390,9 @@ size_t trails_list(const uint8_t *record, size_t lent,
  * STACK. The call has 4,096 bytes of marks, and calls itself one level deeper for
  * each split in a split, at most 4,095 levels: of a record with count fixes about
  * 5,000 + 192 * count bytes on x86-64, so 792,000 at most. A thread needs some
- * thousands more for itself: one of 798,720 bytes was seen to suffice. */
+ * thousands more for itself: one of 798,720 bytes was seen to suffice for the trail of
+ * 4,096 fixes that trails_dearest writes, which nests all these levels, and for the same
+ * trail backwards, with silence bytes and in millimetres. */
 struct trails_answer trails_age(uint8_t *record, size_t lent, uint16_t tolerance);
 
 /* Loads a hall's own table. Row k is days[k] and tolerances[k], in centimetres; the

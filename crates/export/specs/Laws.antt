@@ -16,6 +16,7 @@ use Rattle.record.specs.Examples.{row}
 use Rattle.table.specs.Answers.{row-at, tableOf}
 use Rattle.table.specs.Laws.Checking.{count-is}
 use Rattle.writing.specs.Writing.{write-refusal, write-answer}
+use Rattle.dearest.specs.Dearest.{dearest-refusal, dearest-answer}
 use Rattle.record.specs.Laws.First.{first-exactly}
 use Rattle.record.specs.Laws.Head.{accepted-head}
 use Rattle.format.specs.Laws.Layout.{of-head-field}
@@ -96,9 +97,12 @@ answer-none f is says l a h = go (first says l) refl h
     go none e z = e
     go (some k) e z = let p = first-numbered says l k e in absurd (omega (arith, is k))
 
--- .. the fixes are written, ..
+-- .. the fixes are written, lent ones and those of the dearest trail, ..
 pub written-none : (K : Kind) (l : List Fix) (out : List ℕ) → value-numbers (write-answer K l out) .refusal ≡ 0 → write-refusal K l out ≡ none
 written-none K l out h = answer-none (λ a. value-numbers a .refusal) (λ k. refl) _ _ _ h
+
+pub dearest-none : (n : ℕ) (out : List ℕ) → value-numbers (dearest-answer n out) .refusal ≡ 0 → dearest-refusal n out ≡ none
+dearest-none n out h = answer-none (λ a. value-numbers a .refusal) (λ k. refl) _ _ _ h
 
 -- .. the record is aged, by tolerance or by days, ..
 pub aged-none : (b : List ℕ) (e : ℕ) → value-numbers (age-answer b e) .refusal ≡ 0 → age-refusal b e ≡ none

@@ -26,6 +26,7 @@ ghost use Rattle.writing.specs.Writing.{columns, write-answer, written};
 ghost use Rattle.table.specs.Answers.{tableOf};
 ghost use Rattle.aging.specs.Answers.{counted};
 ghost use Rattle.aging.specs.Aging.{age-answer, aged, days-answer, aged-by-days};
+ghost use Rattle.dearest.specs.Dearest.{dearest-answer, dearest-written};
 ghost use Rattle.export.specs.Interface.{head-numbers, yield-answer, step-numbers, value-numbers};
 
 // Whether a record was accepted, and then what its head says.
@@ -217,7 +218,7 @@ pub extern "C" fn trails_read(b: &[u8], position: usize) -> Step
     }
 }
 
-// All fixes, after checks 1 to 9 and 20, in four columns: the inverse of the three writers.
+// All fixes, after checks 1 to 9 and 20, in four columns: the inverse of the three writers of a list.
 #[no_mangle]
 pub extern "C" fn trails_read_all(
     b: &[u8],
@@ -292,6 +293,15 @@ pub extern "C" fn trails_write_silences(
     ensures { λ r. ⌜ (r ≡ value-numbers (write-answer silence-trail (columns silence-trail (now (t .entry)) (now (x .entry)) (now (y .entry)) (now (silence .entry))) (now (out .entry)))) × (now (out .exit) ≡ written silence-trail (columns silence-trail (now (t .entry)) (now (x .entry)) (now (y .entry)) (now (silence .entry))) (now (out .entry))) ⌝ }
 {
     let w = writing::write(Kind::SilenceTrail, t, x, y, silence, out);
+    length_of(w)
+}
+
+// The record of the dearest trail of n fixes: kind 1.
+#[no_mangle]
+pub extern "C" fn trails_dearest(n: usize, out: &mut [u8]) -> Answer
+    ensures { λ r. ⌜ (r ≡ value-numbers (dearest-answer n (now (out .entry)))) × (now (out .exit) ≡ dearest-written n (now (out .entry))) ⌝ }
+{
+    let w = dearest::write_dearest(n, out);
     length_of(w)
 }
 

@@ -287,7 +287,7 @@ fix-checks = misplaced ∷ unordered ∷ long-span ∷ bad-silence ∷ []
 -- "Aging makes checks 1 to 10, aging by days 1 to 9, the place question 1 to 9, 11, 12, the crossing 1 to 9, 13, 14, the reader and the listing 1 to
 -- 9, the writer 3, 7, 8, 9, 15." Document 02, item 5, puts 20 after 9 in each of them, and 21 after the place question's 12. Item 6 has 22 and 23 "on loading, and
 -- on the table handed to aging by days". Item 2's question makes 16 after 9 and 20. Item 3's reading of an anchor
--- makes 17, 18 and 19.
+-- makes 17, 18 and 19. Of writing item 13's trail "3 and 15 apply".
 pub data Operation : Type 0 where
   reading : Operation
   writing : Operation
@@ -298,6 +298,7 @@ pub data Operation : Type 0 where
   loading : Operation
   approaching : Operation
   anchoring : Operation
+  writing-dearest : Operation
 
 abbrev pub of-record : List ℕ → List ℕ
 of-record l = 1 ∷ 2 ∷ 3 ∷ 4 ∷ 5 ∷ 6 ∷ 7 ∷ 8 ∷ 9 ∷ 20 ∷ l
@@ -312,6 +313,7 @@ makes crossing = of-record (13 ∷ 14 ∷ [])
 makes loading = 22 ∷ 23 ∷ []
 makes approaching = of-record (16 ∷ [])
 makes anchoring = 17 ∷ 18 ∷ 19 ∷ []
+makes writing-dearest = 3 ∷ 15 ∷ []
 
 abbrev pub member : ℕ → List ℕ → Bool
 member n [] = false

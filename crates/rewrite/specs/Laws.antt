@@ -19,7 +19,7 @@ use Rattle.format.specs.Laws.RoundTrip.{bounded-in-bytes}
 use Rattle.record.specs.Answers.{Answer, gives, turns-away, answer, unless}
 use Rattle.record.specs.Checks.{IsAccepted, read-refusal}
 use Rattle.record.specs.Laws.Accepted.{accepted-good, good-fixes, places-good}
-use Rattle.record.specs.Laws.First.{some-none}
+use Rattle.record.specs.Laws.First.{some-none, gives-no-refusal}
 use Rattle.record.specs.Laws.Trail.{Lent}
 use Rattle.writing.specs.Writing.{asked-to-write, write-refusal, Writes}
 use Rattle.writing.specs.Laws.Writing.{writes-none}
@@ -95,12 +95,9 @@ pub answer-within : (b out l : List ℕ) (n : ℕ) → gives n ≡ anew-answer b
 unfolding anew-answer anew
 answer-within b out l n e same = go (read-refusal b) (write-refusal (kind-of b) (fixes b) out) e same
   where
-    gives-turns : {k : ℕ} → gives n ≡ turns-away k → ⊥
-    gives-turns f = let z : _≡_ {A = ℕ} 0 1 = cc in omega arith
-
     go : (r w : Option ℕ) → gives n ≡ refused-or r (answer w (record-length (kind-of b) (length (fixes b)))) → l ≡ unless r out (unless w out (record-bytes (kind-of b) never (fixes b) ++ drop (record-length (kind-of b) (length (fixes b))) out)) → n ≤ length l
-    go (some k) w f h = absurd (gives-turns f)
-    go none (some k) f h = absurd (gives-turns f)
+    go (some k) w f h = absurd (gives-no-refusal f)
+    go none (some k) f h = absurd (gives-no-refusal f)
     go none none f h =
         let z : n ≡ record-length (kind-of b) (length (fixes b)) = cc in
         omega (arith, z, ap length h, length-append (record-bytes (kind-of b) never (fixes b)) (drop (record-length (kind-of b) (length (fixes b))) out), length-record (kind-of b) (kind-of-is b) never (fixes b))

@@ -8,7 +8,9 @@ pub mod ByStretch
 pub mod Silences
 pub mod Mapped
 pub mod Tenfold
+pub mod Mirror
 pub mod Trail
+pub mod Count
 pub mod Near
 pub mod Search
 pub mod KeptBy

@@ -6,7 +6,7 @@
 --   silent i      silence follows i
 use mathlib.Core.Bool.{Bool, true, false, cond, _&&_}
 use mathlib.Core.List.{List, [], _∷_, _++_}
-use Prim.Native.Nat.{ℕ, zero, suc, _+_}
+use Prim.Native.Nat.{ℕ, zero, suc, _+_, _-_, _*_, _/_}
 use lib.Dec.{leb}
 use lib.ListN.{length}
 use Rattle.distance.specs.Fix.{Fix, last-of}
@@ -106,3 +106,8 @@ thinning e l = thin-stretches deviation allowance silent e l
 -- The fixes that it keeps.
 abbrev pub thinned : (e : ℕ) → List Fix → List Fix
 thinned e l = (thinning e l) .kept
+
+-- ---- THE GREATEST COUNT of n fixes: "It is at most (n − 1)(n − 2)/2." (`count-at-most` of Laws/Count.antt.) Of one fix n − 2 is cut off at 0, beside a factor of 0; so
+-- of a fix or more it is that number over ℤ, and no half is lost (`greatest-exactly`).
+abbrev pub greatest-count : (n : ℕ) → ℕ
+greatest-count n = (n - 1) * (n - 2) / 2

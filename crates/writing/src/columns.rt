@@ -2,20 +2,20 @@
 // silences their column isn't looked at, and may be empty.
 ghost use mathlib.Core.Path.{_≡_};
 ghost use mathlib.Core.Bool.{true, cond};
-ghost use Prim.Native.Nat.{_-_, _<_, _≤_};
+ghost use Prim.Native.Nat.{ℕ, _-_, _<_, _≤_};
 ghost use lib.ListN.{length, getD};
 ghost use lib.Seq.{sets};
 ghost use Rattle.distance.specs.Fix.{Bounded, fixOf};
 ghost use Rattle.format.specs.Kinds.{has-silences, layout};
 ghost use Rattle.format.specs.Format.{record-length, each, all-bytes};
-ghost use Rattle.record.specs.Checks.{refusal, writing};
+ghost use Rattle.record.specs.Checks.{sentence, first, fix-checks};
 ghost use Rattle.writing.specs.Writing.{asked-to-write, column-fix, columns-count, columns, Writes};
 ghost use Rattle.record.specs.Answers.{refused};
 ghost use Rattle.writing.specs.Answers.{wrote};
 ghost use Rattle.record.specs.Laws.Scan.{Timed, Scanned};
 ghost use Rattle.distance.specs.Laws.All.{All};
 use crate::Written;
-use crate::write_says;
+use crate::begin_record;
 use distance::Coordinate;
 use distance::Fix;
 use distance::Seconds;
@@ -25,7 +25,6 @@ use format::has_silences;
 use format::least;
 use format::limit_of;
 use format::put_fix;
-use format::put_head;
 use format::record_length;
 use record::Checked;
 use record::Scan;
@@ -86,28 +85,15 @@ fn scan_columns(kind: Kind, ts: &[u32], xs: &[i32], ys: &[i32], silences: &[u8],
     s
 }
 
-// All that the writer asks of n fixes, before it touches the output.
-fn columns_say(
-    kind: Kind,
-    ts: &[u32],
-    xs: &[i32],
-    ys: &[i32],
-    silences: &[u8],
-    n: usize,
-    output: usize,
-) -> Checked
+// What the pass says of the n fixes that are to be written: nothing, if there are none.
+fn columns_say(kind: Kind, ts: &[u32], xs: &[i32], ys: &[i32], silences: &[u8], n: usize) -> Checked
     requires { ⌜ n ≤ columns-count (layout kind) (now ts) (now xs) (now ys) (now silences) ⌝ }
-    ensures { λ r. ⌜ (refused r ≡ refusal (layout kind) writing (asked-to-write (each (column-fix (layout kind) (now (ts .entry)) (now (xs .entry)) (now (ys .entry)) (now (silences .entry))) 0 n) output)) × All Timed (each (column-fix (layout kind) (now (ts .entry)) (now (xs .entry)) (now (ys .entry)) (now (silences .entry))) 0 n) ⌝ }
+    ensures { λ r. ⌜ ((output : ℕ) → 1 ≤ n → refused r ≡ first (sentence (layout kind) (asked-to-write (each (column-fix (layout kind) (now (ts .entry)) (now (xs .entry)) (now (ys .entry)) (now (silences .entry))) 0 n) output)) fix-checks) × All Timed (each (column-fix (layout kind) (now (ts .entry)) (now (xs .entry)) (now (ys .entry)) (now (silences .entry))) 0 n) ⌝ }
 {
     if n == 0 {
-        return write_says(kind, n, Checked::Accepted, output);
+        return Checked::Accepted;
     }
-    write_says(
-        kind,
-        n,
-        scan_says(scan_columns(kind, ts, xs, ys, silences, n)),
-        output,
-    )
+    scan_says(scan_columns(kind, ts, xs, ys, silences, n))
 }
 
 // The n fixes, after a record's head.
@@ -147,13 +133,12 @@ pub fn write(
     ensures { λ r. ⌜ Writes (layout kind) (columns (layout kind) (now (ts .entry)) (now (xs .entry)) (now (ys .entry)) (now (silences .entry))) (now (out .entry)) (wrote r) (now (out .exit)) ⌝ }
 {
     let n = columns_count(kind, ts, xs, ys, silences);
-    let v = columns_say(kind, ts, xs, ys, silences, n, out.len());
-    match v {
-        Checked::Refused(k) => Written::Refused(k),
-        Checked::Accepted => {
-            put_head(out, kind, n as u32, 65535);
+    let w = begin_record(kind, n, columns_say(kind, ts, xs, ys, silences, n), out);
+    match w {
+        Written::Refused(k) => Written::Refused(k),
+        Written::Length(bytes) => {
             put_columns(kind, ts, xs, ys, silences, n, out);
-            Written::Length(record_length(kind, n as u32))
+            Written::Length(bytes)
         },
     }
 }

@@ -13,12 +13,11 @@ ghost use Rattle.record.specs.Answers.{refused};
 ghost use Rattle.writing.specs.Answers.{wrote};
 ghost use Rattle.writing.specs.Laws.Passing.{checks, Passed, Room-for, PassedOne, MadeReady, Finished, stage-answer};
 use crate::Written;
-use crate::write_says;
+use crate::begin_record;
 use distance::Fix;
 use format::Kind;
 use format::limit_of;
 use format::put_fix;
-use format::put_head;
 use format::size_of;
 use record::Checked;
 use record::Scan;
@@ -73,13 +72,10 @@ fn stage_checked(p: Stage) -> Checked
 pub(crate) fn stage_ready(out: &mut [u8], kind: Kind, n: usize, p: Stage) -> Stage
     ensures { λ r. ⌜ MadeReady (layout kind) n p (now (out .entry)) r (now (out .exit)) ⌝ }
 {
-    let v = write_says(kind, n, stage_checked(p), out.len());
-    match v {
-        Checked::Refused(k) => Stage::Refused(k),
-        Checked::Accepted => {
-            put_head(out, kind, n as u32, 65535);
-            Stage::Puts(10)
-        },
+    let w = begin_record(kind, n, stage_checked(p), out);
+    match w {
+        Written::Refused(k) => Stage::Refused(k),
+        Written::Length(_) => Stage::Puts(10),
     }
 }
 

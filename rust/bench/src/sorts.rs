@@ -2,8 +2,9 @@
 
 use trails::MillimetreFix;
 use trails_tests::cases::Random;
+use trails_tests::interface::dearest_fixes;
 use trails_tests::plain::Fix;
-use trails_tests::shapes::{curve, dearest, ten_times};
+use trails_tests::shapes::{curve, ten_times};
 
 /// The same trail and the same questions in every run.
 pub const SEED: u64 = 20_240_229;
@@ -20,7 +21,7 @@ pub const SORTS: [Sort; 3] = [
     Sort {
         name: "dear",
         tolerance: 1,
-        fixes: dearest,
+        fixes: dearest_fixes,
     },
     Sort {
         name: "smooth",

@@ -8,9 +8,10 @@ use std::process::{Command, ExitCode, Stdio};
 use std::thread;
 
 use trails::{in_threes, interface};
+use trails_tests::interface::dearest_fixes;
 use trails_tests::plain::kinds::{Kind, CENTIMETRES, MILLIMETRES, SILENCES};
 use trails_tests::plain::{Trail, MOST_FIXES};
-use trails_tests::shapes::{dearest, ten_times};
+use trails_tests::shapes::{backwards, ten_times};
 
 use crate::layout::{heading, row};
 use crate::sorts::slowly;
@@ -28,8 +29,7 @@ const LEVELS: usize = MOST_FIXES - 1;
 /// The first of the arguments that ask for one aging; which trail and the stack's bytes follow.
 pub const ARGUMENT: &str = "within";
 
-/// The dearest trail's splits nest in the second of the two pieces and, backwards, in the first; a compiler may treat
-/// the two calls differently. In millimetres over hours, sums are of two words.
+/// The dearest trail, forwards or backwards. In millimetres over hours, sums are of two words.
 struct Deep {
     name: &'static str,
     kind: Kind,
@@ -54,11 +54,9 @@ const ALL: [Deep; 5] = [
 
 impl Deep {
     fn record(&self) -> Vec<u8> {
-        let mut fixes = dearest(MOST_FIXES);
+        let mut fixes = dearest_fixes(MOST_FIXES);
         if self.backwards {
-            let last = fixes[fixes.len() - 1].t;
-            fixes.reverse();
-            fixes.iter_mut().for_each(|fix| fix.t = last - fix.t);
+            fixes = backwards(&fixes);
         }
         if self.kind == MILLIMETRES {
             fixes = ten_times(&slowly(fixes));

@@ -36,6 +36,8 @@ pub enum Operation {
     ReadAll(Columns),
     /// by the writer of this kind; the buffer is the output
     Write(Kind, Columns),
+    /// of so many fixes; the buffer is the output
+    Dearest(usize),
     List,
     Age(u16),
     /// for which the buffer is nothing
@@ -62,6 +64,7 @@ impl Case {
     fn kind(&self, made: Kind) -> Kind {
         match self.operation {
             Operation::Write(kind, _) => kind,
+            Operation::Dearest(_) => CENTIMETRES,
             _ => kind_of(&self.buffer, made),
         }
     }
@@ -133,6 +136,7 @@ pub fn proved(case: &Case) -> Outcome {
         }
         Operation::ReadAll(columns) => Reply::Answer(interface::read_all(buffer, columns)),
         Operation::Write(kind, columns) => Reply::Answer(interface::write(*kind, columns, buffer)),
+        Operation::Dearest(n) => Reply::Answer(interface::dearest(*n, buffer)),
         Operation::List => {
             let mut output = blank();
             let length = interface::list(buffer, &mut output);
@@ -174,6 +178,7 @@ pub fn plain(case: &Case) -> Outcome {
         Operation::Write(kind, columns) => {
             Reply::Answer(expected::write(*kind, &columns.fixes(*kind), buffer))
         }
+        Operation::Dearest(n) => Reply::Answer(expected::dearest(*n, buffer)),
         Operation::List => {
             let listing = plain::listing(buffer).into_bytes();
             text = blank().to_vec();

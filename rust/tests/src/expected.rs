@@ -8,7 +8,7 @@ use crate::plain::kinds::Kind;
 use crate::plain::lists::{Call, List};
 use crate::plain::moment::Whereabouts;
 use crate::plain::table::Table;
-use crate::plain::{self, lists, moment, thinning, Fix, Trail};
+use crate::plain::{self, dearest, lists, moment, thinning, Fix, Trail};
 use crate::readings::ReadingColumns;
 use crate::tables::RowColumns;
 
@@ -67,8 +67,17 @@ pub fn read_all(lent: &[u8], columns: &mut Columns) -> Answer {
     answer(plain::read(lent).map(filled))
 }
 
+/// What a writer answers.
+fn written(result: Result<usize, u8>) -> Answer {
+    answer(result.map(|length| length as u32))
+}
+
 pub fn write(kind: Kind, list: &[Fix], output: &mut [u8]) -> Answer {
-    answer(plain::write(kind, list, output).map(|length| length as u32))
+    written(plain::write(kind, list, output))
+}
+
+pub fn dearest(n: usize, output: &mut [u8]) -> Answer {
+    written(dearest::write(n, output))
 }
 
 pub fn aging(lent: &mut [u8], call: Call) -> Answer {

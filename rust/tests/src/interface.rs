@@ -2,7 +2,7 @@
 
 use trails::interface as offered;
 
-pub use offered::{age, built_in, by_table, check, list, place, read};
+pub use offered::{age, built_in, by_table, check, dearest, list, place, read};
 pub use offered::{
     AnchorState, Anchored, Answer, Applied, Approach, Crossing, Head, Loaded, Place, Row, Run,
     Step, Table,
@@ -15,7 +15,7 @@ use crate::plain::approach::Circle;
 use crate::plain::crossing::Question;
 use crate::plain::kinds::{Kind, CENTIMETRES, MILLIMETRES};
 use crate::plain::lists::List;
-use crate::plain::table;
+use crate::plain::{self, table, Fix};
 use crate::readings::ReadingColumns;
 use crate::tables::RowColumns;
 
@@ -32,6 +32,12 @@ pub fn write(kind: Kind, columns: &Columns, output: &mut [u8]) -> Answer {
         MILLIMETRES => offered::write_millimetres(t, x, y, output),
         _ => offered::write_silences(t, x, y, silence, output),
     }
+}
+
+/// The fixes of the dearest trail, as the package writes it.
+pub fn dearest_fixes(n: usize) -> Vec<Fix> {
+    let record = trails::dearest(n).expect("a record has so many fixes");
+    plain::read(&record).expect("it is accepted").fixes
 }
 
 pub fn load(columns: &RowColumns) -> Loaded {

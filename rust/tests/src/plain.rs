@@ -1,7 +1,7 @@
 //! A plain version of document 01 and of what document 02 has changed since: the trail record with its checks, reader,
 //! writers and listing here, its three kinds in `kinds`, tables of days in `table`, thinning and aging in `thinning`, lists
 //! of agings in `lists`, places at fractional times in `place`, the three questions in `moment`, `crossing` and
-//! `approach`, and readings of anchors in `anchors`.
+//! `approach`, readings of anchors in `anchors`, and the dearest trail in `dearest`.
 //!
 //! It follows the documents' sentences one by one. It takes nothing from the proved code, so that a misreading there
 //! would show as a difference here.
@@ -9,6 +9,7 @@
 pub mod anchors;
 pub mod approach;
 pub mod crossing;
+pub mod dearest;
 pub mod kinds;
 pub mod lists;
 pub mod moment;
@@ -155,6 +156,14 @@ impl Trail {
         let head = Head::of(self.kind, self.mark, self.fixes.len());
         encode(self.kind, head, &self.fixes)
     }
+
+    /// Puts the record at the output's start and answers its length: check 15.
+    fn put(&self, output: &mut [u8]) -> Result<usize, u8> {
+        let bytes = self.bytes();
+        refuse_if(15, output.len() < bytes.len())?;
+        output[..bytes.len()].copy_from_slice(&bytes);
+        Ok(bytes.len())
+    }
 }
 
 fn refuse_if(number: u8, sentence: bool) -> Result<(), u8> {
@@ -205,13 +214,9 @@ pub fn read(lent: &[u8]) -> Result<Trail, u8> {
 
 /// The writer of a kind, which makes checks 3, 7, 8, 9, 20 and 15 and answers the record's length.
 pub fn write(kind: Kind, fixes: &[Fix], output: &mut [u8]) -> Result<usize, u8> {
-    let length = kind.record_length(fixes.len());
     refuse_if(3, bad_count(fixes.len()))?;
     check_fixes(kind, fixes)?;
-    refuse_if(15, output.len() < length)?;
-    let trail = Trail::never_thinned(kind, fixes.to_vec());
-    output[..length].copy_from_slice(&trail.bytes());
-    Ok(length)
+    Trail::never_thinned(kind, fixes.to_vec()).put(output)
 }
 
 /// The record that a program takes from its whole standard input, or the line that it prints instead.

@@ -1,6 +1,5 @@
 //! Trails of the sorts that a thinner meets: wild, smooth, at rest, zig-zag, full of equal distances, from wall to wall
-//! over hours, and with distances that differ in one word only; and the two of document 02 that are as long as a record
-//! can be.
+//! over hours, and with distances that differ in one word only; and document 02's own smooth one.
 
 use crate::cases::{fall_silent, fixes, times, times_within, Random};
 use crate::plain::kinds::{Kind, KINDS};
@@ -212,20 +211,23 @@ fn aways(reach: i64, m: i64, random: &mut Random) -> Vec<Place> {
 
 // ---- document 02's
 
-/// Document 02's dearest trail: each split leaves one fix on one side and all others on the other.
-pub fn dearest(n: usize) -> Vec<Fix> {
-    let fix = |i: usize| {
-        let far = (n - 1 - i) as i32;
-        let y = if i.is_multiple_of(2) { far } else { -far };
-        Fix::from((i as u32, 0, y))
-    };
-    (0..n).map(fix).collect()
-}
-
 /// Document 02's smooth trail.
 pub fn curve(n: usize) -> Vec<Fix> {
     let fix = |i: usize| Fix::from((i as u32, i as i32, (i * i / 2_000) as i32));
     (0..n).map(fix).collect()
+}
+
+// ---- the same trail otherwise
+
+/// In the other direction. The splits of the dearest trail nest in the second of the two pieces and, backwards, in the
+/// first, and a compiler may treat the two calls differently.
+pub fn backwards(fixes: &[Fix]) -> Vec<Fix> {
+    let last = fixes[fixes.len() - 1].t;
+    let turned = |fix: &Fix| Fix {
+        t: last - fix.t,
+        ..*fix
+    };
+    fixes.iter().rev().map(turned).collect()
 }
 
 /// The same places in millimetres.

@@ -10,7 +10,7 @@ use trails_tests::plain::kinds::{Kind, CENTIMETRES, KINDS, MILLIMETRES, SILENCES
 use trails_tests::plain::lists::Call;
 use trails_tests::plain::table::{Row, Table};
 use trails_tests::plain::thinning::thin;
-use trails_tests::plain::{stretches, Fix, Trail, MOST_FIXES, NEVER};
+use trails_tests::plain::{dearest, stretches, Fix, Trail, MOST_FIXES, NEVER};
 use trails_tests::shapes::{every_kind_and_shape, trail, Shape, SHAPES};
 
 /// A run of calls, and how many left all fixes, some inner ones, and the ends only, so that none of these can be
@@ -49,8 +49,7 @@ impl Run {
         let mut buffer = self.buffer(shape, &original);
         let answer = buffer.age(call);
         assert_eq!(answer.refusal, 0, "{}, {call:?}", buffer.name);
-        let most = (n as u64 - 1) * (n as u64).saturating_sub(2) / 2;
-        assert!(u64::from(answer.value) <= most, "{}", buffer.name);
+        assert!(answer.value <= dearest::count(n), "{}", buffer.name);
         let aged = buffer.trail();
         let name = format!("{}, {call:?}", buffer.name);
         keeps_the_ends(&original.fixes, &aged.fixes, &name);

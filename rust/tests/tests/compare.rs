@@ -7,7 +7,7 @@ use trails_tests::columns::Columns;
 use trails_tests::compare::readings::{self, Difference, Side};
 use trails_tests::compare::{plain, proved, run, Case, Outcome, Reply};
 use trails_tests::compare::{Operation, Sides};
-use trails_tests::interface::{self, Crossing};
+use trails_tests::interface::{self, Answer, Crossing};
 use trails_tests::plain::anchors::Reading;
 use trails_tests::plain::approach::Circle;
 use trails_tests::plain::crossing::{Area, Question, Window};
@@ -380,6 +380,52 @@ fn a_place_that_the_writer_gets_wrong_is_shown_alone() {
     };
     assert_eq!(case.operation, Operation::Write(CENTIMETRES, columns));
     assert_eq!(case.buffer, [0; 18]);
+}
+
+/// An output that is just long enough stays so while the trail gets shorter.
+#[test]
+fn a_dearest_trail_that_wants_a_byte_more_is_shown_with_one_fix() {
+    let case = shown(|case, outcome| {
+        if let (Operation::Dearest(_), Reply::Answer(answer)) =
+            (&case.operation, &mut outcome.reply)
+        {
+            if answer.refusal == 0 && answer.value as usize == case.buffer.len() {
+                answer.refusal = 15;
+            }
+        }
+    });
+    assert_eq!(case.operation, Operation::Dearest(1));
+    assert_eq!(case.buffer, [0; 18]);
+}
+
+/// A last fix that isn't at 0 is shown by the trail of one fix, in an output that has room for no more.
+#[test]
+fn a_dearest_trail_that_ends_elsewhere_is_shown_with_one_fix() {
+    let case = shown(|case, outcome| {
+        if let (Operation::Dearest(n), Reply::Answer(Answer { refusal: 0, .. })) =
+            (&case.operation, &outcome.reply)
+        {
+            outcome.after.buffer[8 + 8 * n] ^= 1;
+        }
+    });
+    assert_eq!(case.operation, Operation::Dearest(1));
+    assert_eq!(case.buffer, [0; 18]);
+}
+
+/// A check that is left out is shown by the least number that it turns away.
+#[test]
+fn a_dearest_trail_of_too_many_fixes_is_shown_by_their_number() {
+    let case = shown(|case, outcome| {
+        if let (Operation::Dearest(1..), Reply::Answer(answer)) =
+            (&case.operation, &mut outcome.reply)
+        {
+            if answer.refusal == 3 {
+                answer.refusal = 15;
+            }
+        }
+    });
+    assert_eq!(case.operation, Operation::Dearest(4_097));
+    assert!(case.buffer.is_empty());
 }
 
 #[test]

@@ -11,7 +11,7 @@ use trails_tests::cases::{Case, Cases, Random, Settings};
 use trails_tests::plain::kinds::{Kind, CENTIMETRES, KINDS, MILLIMETRES};
 use trails_tests::plain::lists::Call;
 use trails_tests::plain::place::Time;
-use trails_tests::plain::{self, anchors, approach, crossing, moment, table};
+use trails_tests::plain::{self, anchors, approach, crossing, dearest, moment, table};
 use trails_tests::questions::Asked as _;
 use trails_tests::readings::any_state;
 use trails_tests::tables::RowColumns;
@@ -48,6 +48,7 @@ fn kinds_have_their_numbers() {
         assert_eq!(of.unit().to_string(), kind.unit);
     }
     assert_eq!(trails::LONGEST, plain::LONGEST);
+    assert_eq!(trails::MOST_FIXES, plain::MOST_FIXES);
 }
 
 fn number<T>(answer: Result<T, Refusal>) -> Result<T, u8> {
@@ -177,6 +178,32 @@ fn lists_that_are_no_trail_are_turned_away() {
     are_turned_away::<Fix>(32_778, [0, -16_000, 16_001]);
     are_turned_away::<MillimetreFix>(49_162, [0, -160_000, 160_001]);
     are_turned_away::<SilenceFix>(36_874, [0, -16_000, 16_001]);
+}
+
+#[test]
+fn the_dearest_trail_is_written() {
+    for n in [
+        0,
+        1,
+        2,
+        3,
+        300,
+        plain::MOST_FIXES,
+        plain::MOST_FIXES + 1,
+        usize::MAX,
+    ] {
+        let mut expected = vec![7; 40_000];
+        let length = dearest::write(n, &mut expected);
+        let mut output = vec![7; 40_000];
+        assert_eq!(number(trails::dearest_into(n, &mut output)), length);
+        assert!(output == expected, "{n} fixes: other bytes");
+        let alone = length.map(|length| expected[..length].to_vec());
+        assert_eq!(number(trails::dearest(n)), alone);
+    }
+    let mut short = [7; 33];
+    let refused = trails::dearest_into(3, &mut short);
+    assert_eq!(refused, Err(Refusal::ShortOutput));
+    assert_eq!(short, [7; 33]);
 }
 
 /// A silence byte that is neither 0 nor 1 can't be put, and a silence after the last fix is turned away.

@@ -11,11 +11,13 @@ mod arguments;
 mod beside;
 mod check;
 mod cross;
+mod dearest;
 mod failure;
 mod files;
 mod json;
 mod lines;
 mod list;
+mod made;
 mod meaning;
 mod near;
 mod numbers;
@@ -37,10 +39,11 @@ use std::thread;
 use arguments::{Arguments, Command};
 use failure::{Failure, Status};
 
-static COMMANDS: [Command; 10] = [
+static COMMANDS: [Command; 11] = [
     list::COMMAND,
     check::COMMAND,
     write::COMMAND,
+    dearest::COMMAND,
     age::COMMAND,
     table::COMMAND,
     place::COMMAND,
@@ -56,6 +59,7 @@ usage: trail COMMAND ARGUMENTS
   list     print a trail's fixes
   check    say whether files begin with a trail
   write    make a trail of a text with fixes, or with what anchors sent
+  dearest  make the trail that costs most to age, for sizing a controller
   age      thin trails, by a tolerance or by days
   table    check a hall's own table of days and tolerances, and print it
   place    say where a cart was at a moment

@@ -5,7 +5,7 @@ use std::fmt;
 use std::os::unix::ffi::OsStrExt;
 use std::str::FromStr;
 
-use trails::{in_threes, of_every_kind, Moment, Unit};
+use trails::{in_threes, of_every_kind, Moment, Unit, MOST_FIXES};
 
 use crate::words;
 
@@ -19,6 +19,7 @@ pub enum Range {
     Tolerances(Option<Unit>),
     Places(Option<Unit>),
     Radii,
+    Counts,
 }
 
 fn of_unit(unit: Option<Unit>, range: fn(Unit) -> String) -> String {
@@ -40,6 +41,7 @@ impl fmt::Display for Range {
                 let most = |unit: Unit| in_threes(unit.limits().radius);
                 format!("0 to {}", of_unit(None, most))
             }
+            Range::Counts => format!("1 to {}", in_threes(MOST_FIXES as u64)),
             Range::Places(unit) => of_unit(*unit, |unit| {
                 let most = in_threes(unit.limits().place.unsigned_abs());
                 format!("-{most} to {most}")

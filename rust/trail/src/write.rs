@@ -9,6 +9,7 @@ use crate::anchors::{self, Seen};
 use crate::arguments::{Arguments, Command};
 use crate::failure::{Fact, Failure, Refused, Spot, Status};
 use crate::json::Json;
+use crate::made::Made;
 use crate::numbers::{whole, Range};
 use crate::store::store;
 use crate::{files, lines, output, words};
@@ -146,14 +147,6 @@ fn refused_line(kind: Kind, refusal: Refusal, entries: &[(usize, AnyFix)]) -> Op
     found.map(|(line, _)| *line)
 }
 
-/// What was made of a text.
-struct Made {
-    record: Vec<u8>,
-    kind: Kind,
-    count: usize,
-    silences: usize,
-}
-
 /// The record of fixes, each with the number of its line.
 fn made<F: OfKind>(from: &OsStr, entries: &[(usize, F)]) -> Result<Made, Failure> {
     let fixes: Vec<F> = entries.iter().map(|(_, fix)| *fix).collect();
@@ -287,11 +280,7 @@ fn run_fixes(asked: &Asked, text: &[u8]) -> Result<Status, Failure> {
         true => in_millimetres(from, text)?,
         false => in_centimetres(from, lines::entries(from, text, line)?, asked.after)?,
     };
-    store(asked.to, &[from], made.record.as_slice())?;
-    if asked.json {
-        output::print_json(Json::Object(fields(asked.to, &made)))?;
-    }
-    Ok(Status::Done)
+    made.store(asked.to, &[from], asked.json)
 }
 
 /// The trail is stored also if readings were refused: those that were accepted say as much as if they had been alone.
@@ -303,7 +292,7 @@ fn run_anchors(asked: &Asked, text: &[u8]) -> Result<Status, Failure> {
     let summary = read.summary(from);
     match (asked.json, asked.to == "-") {
         (true, _) => {
-            let mut fields = fields(asked.to, &made);
+            let mut fields = made.fields(asked.to);
             fields.extend([
                 ("readings", Json::Whole(read.readings as i128)),
                 ("turned_away", Json::Whole(read.turned_away() as i128)),
@@ -315,15 +304,4 @@ fn run_anchors(asked: &Asked, text: &[u8]) -> Result<Status, Failure> {
         (false, false) => output::print(&format!("{summary}\n"))?,
     }
     Ok(read.worst)
-}
-
-/// What programs are told.
-fn fields(to: &OsStr, made: &Made) -> Vec<(&'static str, Json)> {
-    vec![
-        ("file", Json::text(to)),
-        ("unit", Json::unit(made.kind.unit())),
-        ("count", Json::Whole(made.count as i128)),
-        ("silences", Json::silences(made.kind, made.silences)),
-        ("bytes", Json::Whole(made.record.len() as i128)),
-    ]
 }

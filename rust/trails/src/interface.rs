@@ -267,6 +267,7 @@ extern "C" {
         output: *mut u8,
         output_bytes: usize,
     ) -> Answer;
+    fn trails_dearest(n: usize, output: *mut u8, output_bytes: usize) -> Answer;
     fn trails_list(record: *const u8, lent: usize, output: *mut [u8; LONGEST_TEXT]) -> usize;
     fn trails_age(record: *mut u8, lent: usize, tolerance: u16) -> Answer;
     fn trails_load(
@@ -438,6 +439,12 @@ pub fn write_silences(
             output.len(),
         )
     }
+}
+
+/// The record of the dearest trail of n fixes: checks 3 and 15. The value is its length.
+pub fn dearest(n: usize, output: &mut [u8]) -> Answer {
+    // SAFETY: as in `check`; the output is lent alone, so that it may be written. Every n has an answer.
+    unsafe { trails_dearest(n, output.as_mut_ptr(), output.len()) }
 }
 
 /// The listing's text, at the output's start: answers its length.

@@ -59,6 +59,10 @@
 //! let sent = trails::read_anchor(sent.state, step)?;
 //! assert_eq!((sent.state.x, sent.state.y), (12.5, -6.5625));
 //! assert_eq!(Fix { t: 30, x: sent.x, y: sent.y }, Fix { t: 30, x: 13, y: -7 });
+//!
+//! // what a controller must have time and stack for: of 4,096 fixes no aging measures more
+//! let mut record = trails::dearest(4_096)?;
+//! assert_eq!(trails::age(&mut record, 1), Ok(8_382_465));
 //! # Ok::<(), Refusal>(())
 //! ```
 #![deny(unsafe_code)]
@@ -81,8 +85,9 @@ pub use fix::{AnyFix, Fix, Fixes, MillimetreFix, OfKind, SilenceFix};
 pub use kind::{of_every_kind, Kind};
 pub use questions::{crosses, crosses_after, near, near_after, place};
 pub use questions::{Approach, Area, Crossing, Moment, Place, Point, Window};
-pub use record::{check, claimed_count, claimed_kind, fixes, list, write, write_into};
-pub use record::{Head, LONGEST};
+pub use record::{check, claimed_count, claimed_kind, fixes, list};
+pub use record::{dearest, dearest_into, write, write_into};
+pub use record::{Head, LONGEST, MOST_FIXES};
 pub use refusal::Refusal;
 pub use table::{Row, Table};
 pub use unit::{in_threes, Limits, Unit};

@@ -1,8 +1,8 @@
-//! The trail record: its head, its fixes, writing one, and its listing.
+//! The trail record: its head, its fixes, writing one, the dearest one, and its listing.
 
 use crate::fix::lent::Columns;
 use crate::fix::{AnyFix, Fix, Fixes, MillimetreFix, OfKind, SilenceFix};
-use crate::interface::{self, LONGEST_TEXT};
+use crate::interface::{self, Answer, LONGEST_TEXT};
 use crate::kind::Kind;
 use crate::refusal::{value, Refusal};
 use crate::unit::Unit;
@@ -11,7 +11,7 @@ use crate::unit::Unit;
 const HEAD: usize = 10;
 
 /// The most fixes that a record has.
-const MOST_FIXES: usize = 4_096;
+pub const MOST_FIXES: usize = 4_096;
 
 /// The most bytes that a record has, of whatever kind.
 pub const LONGEST: usize = length(Kind::Millimetres, MOST_FIXES);
@@ -109,14 +109,37 @@ fn with_silence(fix: AnyFix) -> SilenceFix {
 pub fn write_into<F: OfKind>(list: &[F], output: &mut [u8]) -> Result<usize, Refusal> {
     let mut columns = Columns::default();
     list.iter().for_each(|fix| columns.push(fix.any()));
-    let length = value(F::write(&columns, output))?;
-    Ok(length as usize)
+    written(F::write(&columns, output))
 }
 
 /// The record of a list of fixes, of their kind and marked never thinned. Makes checks 3, 7, 8, 9 and 20.
 pub fn write<F: OfKind>(list: &[F]) -> Result<Vec<u8>, Refusal> {
+    alone(|output| write_into(list, output))
+}
+
+/// Puts the record of the dearest trail of n fixes at the output's start, in centimetres and marked never thinned, and
+/// answers its length; later bytes of the output stay. Makes checks 3 and 15.
+///
+/// It is for sizing a controller: `age` at tolerance 1 measures (n − 1)(n − 2)/2 fixes of it, and no record of n fixes,
+/// of whatever kind and at whatever tolerance, measures more. Its splits nest as deep as any can, and every fix stays.
+pub fn dearest_into(n: usize, output: &mut [u8]) -> Result<usize, Refusal> {
+    written(interface::dearest(n, output))
+}
+
+/// The record of the dearest trail of n fixes: see `dearest_into`. Makes check 3.
+pub fn dearest(n: usize) -> Result<Vec<u8>, Refusal> {
+    alone(|output| dearest_into(n, output))
+}
+
+/// The length of the record that a writer has put down.
+fn written(answer: Answer) -> Result<usize, Refusal> {
+    value(answer).map(|length| length as usize)
+}
+
+/// What is written into an output that has room for every record, and nothing after it.
+fn alone(write_into: impl FnOnce(&mut [u8]) -> Result<usize, Refusal>) -> Result<Vec<u8>, Refusal> {
     let mut record = vec![0; LONGEST];
-    let length = write_into(list, &mut record)?;
+    let length = write_into(&mut record)?;
     record.truncate(length);
     Ok(record)
 }

@@ -20,7 +20,7 @@ use Rattle.format.specs.Kinds.{Kind, layout}
 use Rattle.format.specs.Format.{kind-of, record-length, mark-field, count-field, fixes, fix-at, record-bytes}
 use Rattle.format.specs.Laws.Kinds.{of-code, is-kind, kind-of-is, is-coded, longer}
 use Rattle.record.specs.Checks.{Row, IsAccepted, read-refusal, too-long, last-silent, of-ends, load-refusal}
-use Rattle.record.specs.Answers.{Answer, gives, turns-away, unless}
+use Rattle.record.specs.Answers.{Answer, turns-away, unless}
 use Rattle.format.specs.Laws.Each.{length-each}
 use Rattle.format.specs.Laws.Layout.{length-record}
 use Rattle.format.specs.Laws.RoundTrip.{AreBytes, InRange, read-record, bytes-in-range, record-are-bytes}
@@ -32,7 +32,7 @@ use Rattle.thinning.specs.Laws.Kept.{SameEnds, no-fixes, same-ends}
 use Rattle.thinning.specs.Laws.Trail.{kept-all, kept-rising, ends-stay, no-more, never-silent}
 use Rattle.aging.specs.Laws.Aging.{age-reader, age-none, age-10, age-refused, age-done}
 use Rattle.aging.specs.Laws.Days.{days-reader, days-loading, days-refused, days-done}
-use Rattle.record.specs.Laws.First.{some-none}
+use Rattle.record.specs.Laws.First.{some-none, gives-no-refusal}
 use Rattle.record.specs.Laws.Silence.{NoSilence, no-silence}
 
 -- ---- the kept fixes are good: within the limits, in order, no longer than before, and with the silences that they had
@@ -155,9 +155,6 @@ days-as-tolerance b d e rows a l h =
 abbrev pub IsTurnedAway : Kind → Call → (k : ℕ) → Type 0
 IsTurnedAway K (by-tolerance e) k = (k ≡ 10) × (K .top < e)
 IsTurnedAway K (by-days d rows) k = load-refusal rows ≡ some k
-
-gives-no-refusal : {n k : ℕ} → gives n ≡ turns-away k → ⊥
-gives-no-refusal e = let z : _≡_ {A = ℕ} 0 1 = cc in omega arith
 
 same-number : {n k : ℕ} → _≡_ {A = Answer ℕ} (turns-away n) (turns-away k) → n ≡ k
 same-number e = cc

@@ -3,7 +3,7 @@ use mathlib.Core.Path.{_≡_, refl, sym, ap, _∙_}
 use mathlib.Core.Bool.{false}
 use mathlib.Core.List.{List}
 use mathlib.Core.Option.{Option, some, none}
-use Prim.Native.Nat.{ℕ, _+_, _*_, _/_}
+use Prim.Native.Nat.{_+_, _*_, _/_}
 use native.Mathlib.Omega.{arith}
 use borrow.Author.Tests.{le-ltb}
 use lib.IntN.{ℤ, pos, natAbs}
@@ -14,8 +14,9 @@ use Rattle.distance.specs.Integers.Tests.{neither}
 use Rattle.distance.specs.Laws.All.{All, all-none, all-more}
 use Rattle.format.specs.Kinds.{trail, silence-trail}
 use Rattle.record.specs.Checks.{outside, far, new-place, anchor-refusal, some-outside}
-use Rattle.record.specs.Answers.{gives, answer}
+use Rattle.record.specs.Answers.{gives}
 use Rattle.record.specs.Laws.Accepted.{outside-size, inside-bound}
+use Rattle.record.specs.Laws.First.{answer-gives}
 use Rattle.anchors.specs.declared.State.{State}
 use Rattle.anchors.specs.declared.Reading.{Reading}
 use Rattle.anchors.specs.Anchors.{report, rounded-count, rounded-place, anchor-answer}
@@ -33,13 +34,9 @@ count-inside : (o : Option ℤ) → far o ≡ false → outside 16000 (rounded-c
 count-inside none h = refl
 count-inside (some z) h = rounded-inside z h
 
-given : {A : Type 0} (o : Option ℕ) (a b : A) → answer o a ≡ gives b → (o ≡ none) × (a ≡ b)
-given none a b h = (refl, let e : a ≡ b = cc in e)
-given (some k) a b h = absurd (let e : _≡_ {A = ℕ} 0 1 = cc in omega arith)
-
 pub yielded-inside : (s : State) (r : Reading) (P : Point) → anchor-answer s r ≡ gives P → (outside 16000 (P .x) ≡ false) × (outside 16000 (P .y) ≡ false)
 yielded-inside s r P h =
-    let g = given (anchor-refusal (report s r)) (rounded-place (new-place (report s r))) P h in
+    let g = answer-gives (anchor-refusal (report s r)) (rounded-place (new-place (report s r))) P h in
     let n = neither (far (new-place (report s r) .x)) (far (new-place (report s r) .y)) (passes (report s r) (g .0) .inside) in (
       ap (λ (Q : Point). outside 16000 (Q .x)) (sym (g .1)) ∙ count-inside (new-place (report s r) .x) (n .0),
       ap (λ (Q : Point). outside 16000 (Q .y)) (sym (g .1)) ∙ count-inside (new-place (report s r) .y) (n .1),

@@ -4,7 +4,7 @@ use mathlib.Core.List.{List, [], _∷_, _++_}
 use Prim.Native.Nat.{ℕ, zero, suc, _+_, _-_, _<_, _≤_}
 use native.Mathlib.Omega.{arith}
 use lib.ListN.{length}
-use Rattle.distance.specs.Laws.All.{All, all-more}
+use Rattle.distance.specs.Laws.All.{All, all-none, all-more}
 use Rattle.format.specs.Format.{each}
 
 module _ {A : Type 0} where
@@ -37,7 +37,13 @@ module _ {A : Type 0} where
   each-first f k zero h = absurd (omega arith)
   each-first f k (suc n) h = let e : suc n - 1 ≡ n = omega arith in rw e refl
 
-  -- what holds of all holds at each position
+  -- what holds at each position holds of all ..
+  pub each-all : {P : A → Type 0} (f : ℕ → A) (k n : ℕ) → ((i : ℕ) → k ≤ i → i < k + n → P (f i)) → All P (each f k n)
+  unfolding each
+  each-all f k zero h = all-none
+  each-all f k (suc n) h = all-more (h k (omega arith) (omega arith)) (each-all f (suc k) n (λ i p q. h i (omega arith) (omega arith)))
+
+  -- .. and what holds of all holds at each
   all-from : {P : A → Type 0} (f : ℕ → A) (k n i : ℕ) → All P (each f k n) → i < n → P (f (k + i))
   unfolding each
   all-from f k (suc n) zero (all-more h t) less = let e : k + 0 ≡ k = omega arith in rw e h

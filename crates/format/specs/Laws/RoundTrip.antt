@@ -23,7 +23,7 @@ use Rattle.format.specs.Kinds.{Kind, layout}
 use Rattle.format.specs.Format.{kind-of, record-length, each, fix-at, fix-from, fix-to, fix-bytes, all-bytes, header-bytes, record-bytes, length-field, kind-field, mark-field, count-field, fixes}
 use Rattle.format.specs.Laws.Numbers.{even, signed-low, signed-high, fix-parts, false-true}
 use Rattle.format.specs.Laws.Kinds.{IsKind, is-kind, kind-is, kind-of-is, one-more, longest}
-use Rattle.format.specs.Laws.Each.{length-each}
+use Rattle.format.specs.Laws.Each.{length-each, each-all}
 use Rattle.format.specs.Laws.Stores.{length-bytes, sets-then}
 use Rattle.format.specs.Laws.Layout.{length-fix-bytes, length-header}
 
@@ -289,9 +289,7 @@ module _ (K : Kind) (is : IsKind K) (b : List ℕ) (h : AreBytes b) where
       }
 
   pub bytes-in-range : (k n : ℕ) → All (InRange K) (each (fix-at K b) k n)
-  unfolding each
-  bytes-in-range k zero = all-none
-  bytes-in-range k (suc n) = all-more (fix-in-range k) (bytes-in-range (suc k) n)
+  bytes-in-range k n = each-all (fix-at K b) k n (λ i p q. fix-in-range i)
 
 pub rewrites : (b : List ℕ) → AreBytes b → length-field b ≡ record-length (kind-of b) (count-field b) → kind-field b ≡ kind-of b .code → length-field b ≤ length b
     → record-bytes (kind-of b) (mark-field b) (fixes b) ≡ take (length-field b) b

@@ -7,8 +7,8 @@ use mathlib.Core.Option.{Option, some, none}
 use Prim.Native.Nat.{ℕ}
 use native.Mathlib.Omega.{arith}
 use Rattle.format.specs.Kinds.{Kind}
-use Rattle.record.specs.Answers.{gives, answer}
-use Rattle.record.specs.Checks.{Check, Given, Asked, number, order, first, FirstHolds, this, not-before, sentence, refusal, refusal-of, reading, writing, aging, aging-by-days, placing, crossing, loading, approaching, anchoring, read-refusal}
+use Rattle.record.specs.Answers.{gives, turns-away, answer}
+use Rattle.record.specs.Checks.{Check, Given, Asked, number, order, first, FirstHolds, this, not-before, sentence, refusal, refusal-of, reading, writing, aging, aging-by-days, placing, crossing, loading, approaching, anchoring, writing-dearest, read-refusal}
 
 pub some-none : {A : Type 0} {a : A} → some a ≡ none → ⊥
 some-none e = let z : _≡_ {A = ℕ} 0 1 = cc in omega arith
@@ -96,6 +96,14 @@ module _ (says : Check → Bool) where
       go true e h r = absurd (some-none h)
       go false e h r = and-not e (r h)
 
+pub gives-no-refusal : {A : Type 0} {a : A} {k : ℕ} → gives a ≡ turns-away k → ⊥
+gives-no-refusal e = let z : _≡_ {A = ℕ} 0 1 = cc in omega arith
+
+-- an answer that gives was turned away by nothing, and is what was to be given
+pub answer-gives : {A : Type 0} (r : Option ℕ) (a b : A) → answer r a ≡ gives b → (r ≡ none) × (a ≡ b)
+answer-gives none a b h = (refl, let e : a ≡ b = cc in e)
+answer-gives (some k) a b h = absurd (gives-no-refusal (sym h))
+
 -- what is given where nothing is turned away decides the answer alone
 pub answer-same : {A : Type 0} (r : Option ℕ) {x y : A} → (r ≡ none → x ≡ y) → answer r x ≡ answer r y
 answer-same (some k) e = refl
@@ -139,3 +147,7 @@ anchoring-alone b c g h e = rw e refl
 pub writing-alone : (K : Kind) (p q : Asked) → p .count ≡ q .count → p .trail-fixes ≡ q .trail-fixes → p .given .output ≡ q .given .output → refusal K writing p ≡ refusal K writing q
 unfolding first sentence
 writing-alone K p q e f g = rw (e, f, g) refl
+
+pub writing-dearest-alone : (K : Kind) (p q : Asked) → p .count ≡ q .count → p .given .output ≡ q .given .output → refusal K writing-dearest p ≡ refusal K writing-dearest q
+unfolding first sentence
+writing-dearest-alone K p q e f = rw (e, f) refl

@@ -9,7 +9,7 @@ use lib.ListN.{length}
 use Rattle.format.specs.Kinds.{Kind, kinds, coded}
 use Rattle.format.specs.Format.{kind-field}
 use Rattle.format.specs.Laws.Numbers.{false-true}
-use Rattle.record.specs.Checks.{Operation, reading, writing, aging, aging-by-days, placing, crossing, loading, approaching, anchoring, makes, member, Given, first, sentence, asked-of, refusal}
+use Rattle.record.specs.Checks.{Operation, reading, writing, aging, aging-by-days, placing, crossing, loading, approaching, anchoring, writing-dearest, makes, member, Given, first, sentence, asked-of, refusal}
 
 -- AN UNKNOWN KIND: whatever an operation over a record's bytes, which makes check 2, is asked, and whatever stands in their other bytes, the answer is the refusal
 -- 1 or 2. (A reader, at whatever position somebody puts it, yields nothing: `unknown-yields-none` of the reading's Laws/Reading.antt.)
@@ -20,6 +20,7 @@ unknown-kind reading K b g w h = rw h refl
 unknown-kind writing K b g w h = absurd (false-true w)
 unknown-kind loading K b g w h = absurd (false-true w)
 unknown-kind anchoring K b g w h = absurd (false-true w)
+unknown-kind writing-dearest K b g w h = absurd (false-true w)
 unknown-kind aging K b g w h = rw h refl
 unknown-kind aging-by-days K b g w h = rw h refl
 unknown-kind placing K b g w h = rw h refl

@@ -34,18 +34,18 @@ pub none-timed : (l : List Fix) → length l ≡ 0 → All Timed l
 none-timed [] h = all-none
 none-timed (f ∷ l) h = absurd (omega arith)
 
--- a coordinate of 32 bits and a limit, compared in 32 bits: one that these hold, ..
-pub record OutsideFits (limit : ℕ) : Type 0 where
-  pub far : toZ w32 limit ≡ pos limit
-  pub minus : SFits w32 (pos 0 -ℤ pos limit)
+-- a number that 32 bits hold with either sign
+pub record BothSigns (n : ℕ) : Type 0 where
+  pub plus : toZ w32 n ≡ pos n
+  pub minus : SFits w32 (pos 0 -ℤ pos n)
 
-pub outside-fits : {limit : ℕ} → limit ≤ 2147483647 → OutsideFits limit
-outside-fits {limit} h =
-    let far : Bound (pos limit) = record { top = 2147483647; holds = h } in
+pub both-signs : {n : ℕ} → n ≤ 2147483647 → BothSigns n
+both-signs {n} h =
+    let far : Bound (pos n) = record { top = 2147483647; holds = h } in
     let none : Bound (pos 0) = record { top = 0; holds = omega arith } in
-    record { far = toZ-pos w32 (omega arith); minus = fits w32 (none ⊝ far) tt }
+    record { plus = toZ-pos w32 (omega arith); minus = fits w32 (none ⊝ far) tt }
 
--- .. and one that they don't, which nothing is outside of
+-- no coordinate is outside a limit that they don't hold
 pub none-outside : (z : ℤ) (limit : ℕ) → SFits w32 z → 2147483647 < limit → false ≡ outside limit z
 none-outside z limit f h = rw (ltZ-false {x = z} {y = negℤ (pos limit)} (low z f), ltZ-false {x = pos limit} {y = z} (high z f)) refl
   where

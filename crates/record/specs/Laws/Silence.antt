@@ -2,13 +2,14 @@
 use mathlib.Core.Path.{_≡_, refl}
 use mathlib.Core.Bool.{false}
 use mathlib.Core.List.{List, [], _∷_}
-use Prim.Native.Nat.{ℕ, zero, suc}
+use Prim.Native.Nat.{ℕ}
 use Rattle.distance.specs.Fix.{Fix}
 use Rattle.distance.specs.Laws.All.{All, all-none, all-more, all-last}
 use Rattle.distance.specs.Laws.Silence.{none-in-silence}
 use Rattle.format.specs.Bytes.{number-at}
 use Rattle.format.specs.Kinds.{Kind}
-use Rattle.format.specs.Format.{kind-of, count-field, fix-from, fix-at, each, fixes}
+use Rattle.format.specs.Format.{kind-of, count-field, fix-from, fix-at, fixes}
+use Rattle.format.specs.Laws.Each.{each-all}
 use Rattle.record.specs.Checks.{Given, bad-silence, moment-in-silence, sentence, some-other-silence, last-silent, of-ends}
 use Rattle.record.specs.Laws.Head.{asks}
 
@@ -19,24 +20,19 @@ pub fix-heard : (K : Kind) (b : List ℕ) (k : ℕ) → K .silence-width ≡ 0 �
 unfolding fix-at fix-from number-at
 fix-heard K b k h = rw h refl
 
-all-heard : (K : Kind) (b : List ℕ) → K .silence-width ≡ 0 → (k n : ℕ) → All NoSilence (each (fix-at K b) k n)
-unfolding each
-all-heard K b h k zero = all-none
-all-heard K b h k (suc n) = all-more (fix-heard K b k h) (all-heard K b h (suc k) n)
-
 pub no-silence : (b : List ℕ) → kind-of b .silence-width ≡ 0 → All NoSilence (fixes b)
-no-silence b h = all-heard (kind-of b) b h 0 (count-field b)
+no-silence b h = each-all (fix-at (kind-of b) b) 0 (count-field b) (λ k p q. fix-heard (kind-of b) b k h)
 
-known : {l : List Fix} → All NoSilence l → some-other-silence l ≡ false
+pub heard-known : {l : List Fix} → All NoSilence l → some-other-silence l ≡ false
 unfolding some-other-silence
-known all-none = refl
-known (all-more h t) = rw (h, known t) refl
+heard-known all-none = refl
+heard-known (all-more h t) = rw (h, heard-known t) refl
 
-heard-last : (l : List Fix) → All NoSilence l → of-ends last-silent l ≡ false
+pub heard-last : (l : List Fix) → All NoSilence l → of-ends last-silent l ≡ false
 unfolding of-ends
 heard-last [] h = refl
 heard-last (f ∷ l) h = rw (all-last f l h) refl
 
 pub no-silence-refused : (b : List ℕ) (g : Given) → kind-of b .silence-width ≡ 0 → (asks b g bad-silence ≡ false) × (asks b g moment-in-silence ≡ false)
 unfolding sentence
-no-silence-refused b g h = let none = no-silence b h in (rw (known none, heard-last (fixes b) none) refl, none-in-silence (fixes b) _ none)
+no-silence-refused b g h = let none = no-silence b h in (rw (heard-known none, heard-last (fixes b) none) refl, none-in-silence (fixes b) _ none)

@@ -10,9 +10,9 @@ use lib.ListN.{length, getD, set, length-set, replicate, length-replicate, getD-
 use lib.Seq.{getD-set-same, getD-set-other}
 use Rattle.distance.specs.Integers.Tests.{Test, holds, fails, test}
 use Rattle.format.specs.Format.{each}
-use Rattle.format.specs.Laws.Each.{length-each, each-more}
+use Rattle.format.specs.Laws.Each.{length-each, each-more, each-all}
 use Rattle.thinning.specs.Marks.{kept-by, ClearFrom, Cleared, Ready}
-use Rattle.distance.specs.Laws.All.{All, all-none, all-more}
+use Rattle.distance.specs.Laws.All.{All}
 
 -- ---- lists by position
 module _ {A : Type 0} (f : ℕ → A) where
@@ -23,11 +23,6 @@ module _ {A : Type 0} (f : ℕ → A) where
       let p : suc n + m ≡ suc (n + m) = omega arith in
       let q : k + suc n ≡ suc k + n = omega arith in
       rw (p, q) (ap (λ (l : List A). f k ∷ l) (each-append (suc k) n m))
-
-  pub each-all : {P : A → Type 0} (k n : ℕ) → ((i : ℕ) → k ≤ i → i < k + n → P (f i)) → All P (each f k n)
-  unfolding each
-  each-all k zero h = all-none
-  each-all k (suc n) h = all-more (h k (le-refl k) (omega arith)) (each-all (suc k) n (λ i p q. h i (omega arith) (omega arith)))
 
   -- the inner fixes of the span from position lo to position hi
   abbrev pub inner : (lo hi : ℕ) → List A
@@ -41,7 +36,7 @@ module _ {A : Type 0} (f : ℕ → A) where
       rw p (each-append (suc lo) (m - suc lo) (suc (hi - suc m)) ∙ rw q refl)
 
   pub inner-all : {P : A → Type 0} (lo hi : ℕ) → ((i : ℕ) → lo < i → i < hi → P (f i)) → All P (inner lo hi)
-  inner-all lo hi h = each-all (suc lo) (hi - suc lo) (λ i p q. h i p (omega arith))
+  inner-all lo hi h = each-all f (suc lo) (hi - suc lo) (λ i p q. h i p (omega arith))
 
 -- ---- what is marked
 module _ {A : Type 0} (marks : List Bool) where

@@ -9,12 +9,12 @@ use Rattle.distance.specs.Fix.{Fix}
 use Rattle.distance.specs.Distance.{deviation, allowance}
 use Rattle.distance.specs.Silence.{silent}
 use Rattle.format.specs.Format.{each}
-use Rattle.format.specs.Laws.Each.{length-each, each-more}
+use Rattle.format.specs.Laws.Each.{length-each, each-more, each-all}
 use Rattle.thinning.specs.Thinning.{Thinned, together, stretches, thin, thin-each, thin-stretches, thinning}
 use Rattle.thinning.specs.Marks.{kept-by, Says, ClearFrom, Stretch, from-to, StretchMarked, MarkedTo}
 use Rattle.thinning.specs.Laws.Stretches.{EndsAt, by-silence, by-last, NoneSilent, first-stretch}
 use Rattle.thinning.specs.Laws.ByStretch.{together-assoc, stretches-count}
-use Rattle.thinning.specs.Laws.KeptBy.{each-append, each-all, kept-by-append, kept-by-same}
+use Rattle.thinning.specs.Laws.KeptBy.{each-append, kept-by-append, kept-by-same}
 use Rattle.thinning.specs.Laws.Marks.{small-count}
 
 module _ {A : Type 0} (far : (i m j : A) → ℕ) (bound : (e : ℕ) (i j : A) → ℕ) (silent : A → Bool) (f : ℕ → A) (e n : ℕ) where

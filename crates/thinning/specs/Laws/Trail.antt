@@ -3,8 +3,7 @@ use mathlib.Core.Path.{_≡_, refl, sym, _∙_, ap}
 use mathlib.Core.Logic.{_↔_}
 use mathlib.Core.Bool.{Bool, true, false, cond, _&&_, _||_}
 use mathlib.Core.List.{List, [], _∷_, _++_, Sublistᴰ}
-use Prim.Native.Nat.{ℕ, zero, suc, _+_, _*_, _-_, _<_, _≤_, max}
-use native.Mathlib.Omega.{arith}
+use Prim.Native.Nat.{ℕ, _<_, _≤_, max}
 use lib.Dec.{leb}
 use borrow.Author.Tests.{leb-true, le-leb}
 use lib.ListN.{length}
@@ -18,7 +17,7 @@ use Rattle.thinning.specs.Thinning.{joined, stretches, thin, thin-each, 
 use Rattle.distance.specs.Laws.All.{All}
 use Rattle.thinning.specs.Laws.Kept.{SameEnds, Pieces, no-piece, alone, piece, sublist-length, pieces-ends, pieces-sublist, pieces-all}
 use Rattle.thinning.specs.Laws.Stretches.{NoneSilent}
-use Rattle.thinning.specs.Laws.ByStretch.{unbroken, stretches-pieces, stretches-count, stretches-again, stretches-greater}
+use Rattle.thinning.specs.Laws.ByStretch.{unbroken, stretches-pieces, stretches-again, stretches-greater}
 use Rattle.thinning.specs.Laws.Silences.{Neighbours, silences-from, silences, silences-stay, both-ends-stay}
 
 -- the test that `thin-span` makes of each inner fix is the distance layer's
@@ -114,21 +113,3 @@ silent-as-before e l u = silent-at u (thinned e l) ∙ ap (inside-some u) (silen
 pub never-silent : (e : ℕ) (l : List Fix) → NoneSilent silent l → thinning e l ≡ thin deviation allowance e l
 unfolding thinning
 never-silent e l h = unbroken deviation allowance silent e l h
-
--- ---- "It is at most (n − 1)(n − 2)/2."
-pub count-bound : (e : ℕ) (l : List Fix) → 2 * (thinning e l) .count + 3 * length l ≤ length l * length l + 2
-unfolding thinning
-count-bound e l = stretches-count deviation allowance silent e l
-
--- the same in its printed form
-pub count-at-most : (e : ℕ) (l : List Fix) → 2 * (thinning e l) .count ≤ (length l - 1) * (length l - 2)
-unfolding thinning thin-each stretches
-count-at-most e [] = omega arith
-count-at-most e (i ∷ l) = from (length l) ((thinning e (i ∷ l)) .count) (count-bound e (i ∷ l))
-  where
-    from : (n c : ℕ) → 2 * c + 3 * suc n ≤ suc n * suc n + 2 → 2 * c ≤ (suc n - 1) * (suc n - 2)
-    from zero c h = omega arith
-    from (suc n) c h =
-        let one : suc (suc n) - 1 ≡ suc n = omega arith in
-        let two : suc (suc n) - 2 ≡ n = omega arith in
-        rw (one, two) (omega arith)

@@ -24,7 +24,7 @@ use Rattle.record.specs.Laws.Head.{positive}
 use Rattle.format.specs.Laws.RoundTrip.{InRange, bounded-in-range, read-record}
 use Rattle.writing.specs.Writing.{asked-to-write, write-refusal, written, ReadsBack, column-fix, columns-count, columns}
 use Rattle.writing.specs.Laws.Writing.{writes-fit}
-use Rattle.format.specs.Laws.Each.{length-each, each-shift}
+use Rattle.format.specs.Laws.Each.{length-each, each-shift, each-all}
 use Rattle.format.specs.Laws.Layout.{length-record}
 use Rattle.record.specs.Answers.{gives}
 use Rattle.reading.specs.Reading.{times-of, xs-of, ys-of, silences-of, read-answer, times-read, xs-read, ys-read, silences-read}
@@ -95,13 +95,8 @@ module _ (κ : CodeKind) (ts : List ℕ) (xs ys : List ℤ) (silences : List ℕ
   abbrev K : Kind
   K = layout κ
 
-  each-sayable : (k n : ℕ) → All (Sayable K) (each (column-fix K ts xs ys silences) k n)
-  unfolding each
-  each-sayable k zero = all-none
-  each-sayable k (suc n) = all-more {m = column-fix K ts xs ys silences k} (record { no-byte = λ e. rw e refl }) (each-sayable (suc k) n)
-
   pub columns-sayable : All (Sayable K) (columns K ts xs ys silences)
-  columns-sayable = each-sayable 0 (columns-count K ts xs ys silences)
+  columns-sayable = each-all (column-fix K ts xs ys silences) 0 (columns-count K ts xs ys silences) (λ k p q. record { no-byte = λ e. rw e refl })
 
   -- each from its column
   pub column-parts : (k : ℕ) {t : ℕ} {x y : ℤ} {s : ℕ} → t ≡ getD ts k 0 → x ≡ getD xs k (pos 0) → y ≡ getD ys k (pos 0) → s ≡ cond (has-silences K) (getD silences k 0) 0

@@ -1,5 +1,5 @@
 -- The writer: its checks in order, and that what it puts down is the record.
-use mathlib.Core.Path.{_≡_, refl, _∙_}
+use mathlib.Core.Path.{_≡_, refl, _∙_, ap}
 use mathlib.Core.Bool.{Bool, true, false}
 use mathlib.Core.List.{List, [], _∷_, _++_}
 use mathlib.Core.Option.{some, none}
@@ -15,7 +15,7 @@ use Rattle.format.specs.Format.{record-length, all-bytes, header-bytes}
 use Rattle.format.specs.Laws.Kinds.{IsKind}
 use Rattle.record.specs.Checks.{Check, bad-count, short-output, sentence, first, fix-checks, refusal, writing, some-outside, some-early, some-other-silence, of-ends}
 use Rattle.writing.specs.Writing.{asked-to-write, write-refusal, write-answer, written}
-use Rattle.record.specs.Answers.{gives, turns-away}
+use Rattle.record.specs.Answers.{Answer, gives, turns-away}
 use Rattle.record.specs.Laws.First.{stops, passes, none-first, some-first, NoneHolds, no-check, and-not, none-holds}
 use Rattle.distance.specs.Integers.Tests.{neither}
 use Rattle.format.specs.Laws.Layout.{record-stores}
@@ -87,5 +87,20 @@ module _ (K : Kind) (kind : IsKind K) (l : List Fix) (out : List ℕ) (n : ℕ) 
   pub writes-record : sets (sets out 0 (header-bytes K 65535 n)) 10 (all-bytes K l) ≡ written K l out
   writes-record = rw (← is) (record-stores K kind out 65535 l (writes-fit K l (length out) h .1) ∙ rw h refl)
 
+-- how a writer begins: what it answers of the list l, and the output after that, which has the head if nothing turns the list away
+abbrev pub Begun : Kind → List Fix → (out : List ℕ) → Answer ℕ → (begun : List ℕ) → Type 0
+Begun K l out (turns-away k) begun = (write-refusal K l out ≡ some k) × (begun ≡ out)
+Begun K l out (gives bytes) begun = (write-refusal K l out ≡ none) × (bytes ≡ record-length K (length l)) × (begun ≡ sets out 0 (header-bytes K 65535 (length l)))
+
 pub writes-refusal : (K : Kind) (l : List Fix) (out : List ℕ) (k : ℕ) → write-refusal K l out ≡ some k → (turns-away k ≡ write-answer K l out) × (out ≡ written K l out)
 writes-refusal K l out k h = (rw h refl, rw h refl)
+
+module _ (K : Kind) (l : List Fix) (out begun : List ℕ) where
+  pub begun-refused : (k : ℕ) → Begun K l out (turns-away k) begun → (turns-away k ≡ write-answer K l out) × (begun ≡ written K l out)
+  begun-refused k (h, same) = let w = writes-refusal K l out k h in (w .0, same ∙ w .1)
+
+  -- .. and with its fixes after the head it is the record
+  pub begun-done : IsKind K → (bytes : ℕ) → Begun K l out (gives bytes) begun → (after : List ℕ) → after ≡ sets begun 10 (all-bytes K l)
+      → (gives bytes ≡ write-answer K l out) × (after ≡ written K l out)
+  begun-done kind bytes (h, long, head) after put =
+      (ap gives long ∙ writes-length K kind l out (length l) refl h, put ∙ ap (λ (o : List ℕ). sets o 10 (all-bytes K l)) head ∙ writes-record K kind l out (length l) refl h)

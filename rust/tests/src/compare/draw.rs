@@ -6,7 +6,8 @@ use crate::cases::{Draft, Random};
 use crate::columns::Columns;
 use crate::plain::approach::Circle;
 use crate::plain::crossing::Question;
-use crate::plain::kinds::{Kind, KINDS};
+use crate::plain::dearest;
+use crate::plain::kinds::{Kind, CENTIMETRES, KINDS};
 use crate::plain::lists::{Call, List};
 use crate::plain::table::Table;
 use crate::plain::{read, Fix, Trail, MOST_FIXES, NEVER};
@@ -29,7 +30,7 @@ pub fn drawn(random: &mut Random) -> Drawn {
 fn case(made: Kind, random: &mut Random) -> Case {
     let buffer = buffer(made, random);
     let kind = kind_of(&buffer, made);
-    let operation = match random.between(0, 14) {
+    let operation = match random.between(0, 15) {
         0 => Operation::Check,
         1 => Operation::Read(positions(random)),
         2 => return writing(made, random),
@@ -47,6 +48,8 @@ fn case(made: Kind, random: &mut Random) -> Case {
             let circle = asked::<Circle>(&buffer, &[16], random);
             Operation::NearAfter(agings(kind, random), circle)
         }
+        14 if random.one_in(3) => return aging_the_dearest(random),
+        14 => return writing_the_dearest(random),
         _ => {
             let question = asked::<Question>(&buffer, &[13, 14], random);
             Operation::CrossesAfter(agings(kind, random), question)
@@ -88,6 +91,11 @@ fn accepted(kind: Kind, n: usize, random: &mut Random) -> Draft {
         mark: mark(kind, random),
         ..any(kind, n, random)
     };
+    followed(trail, random)
+}
+
+/// A record that half of the time has bytes after it.
+fn followed(trail: Trail, random: &mut Random) -> Draft {
     let after = random.between(-20, 20).max(0) as usize;
     Draft::new(trail, random.bytes(after))
 }
@@ -207,17 +215,47 @@ fn asked<Q: Asked>(buffer: &[u8], faults: &[u8], random: &mut Random) -> Q {
     question
 }
 
-// ---- the writer
+// ---- the writers
 
-/// A list to write, into an output that in two of five cases is too short.
-fn writing(kind: Kind, random: &mut Random) -> Case {
-    let list = list(kind, random);
-    let length = kind.record_length(list.len()) as i64;
+/// An output for a record of so many fixes, which in two of five cases is too short.
+fn output(kind: Kind, count: usize, random: &mut Random) -> Vec<u8> {
+    let length = kind.record_length(count) as i64;
     let short = random.between(0, length - 1);
     let long = random.between(length, length + 40);
     let bytes = random.pick(&[length, long, long, short, length - 1]);
+    random.bytes(bytes as usize)
+}
+
+/// The dearest trail, of a number of fixes that a record has or that none has, also one whose low bits, or those of its
+/// record's length, are those of a few; into an output for as many, or for a few.
+fn writing_the_dearest(random: &mut Random) -> Case {
+    let few = random.between(1, 60) as usize;
+    let any = random.between(1, MOST_FIXES as i64) as usize;
+    let edge = random.pick(&[0, 1, 2, 3, MOST_FIXES - 1, MOST_FIXES, MOST_FIXES + 1]);
+    let wide = few + (1 << random.pick(&[16, 32, 61]));
+    let n = random.pick(&[few, few, any, edge, edge, wide, usize::MAX]);
+    let count = random.pick(&[few, n]).min(MOST_FIXES);
     Case {
-        buffer: random.bytes(bytes as usize),
+        buffer: output(CENTIMETRES, count, random),
+        operation: Operation::Dearest(n),
+    }
+}
+
+/// The dearest trail of few fixes, which is aged at 1 or at any tolerance.
+fn aging_the_dearest(random: &mut Random) -> Case {
+    let n = random.between(1, 60) as usize;
+    let any = tolerance(CENTIMETRES, random);
+    Case {
+        buffer: followed(dearest::trail(n), random).bytes(),
+        operation: Operation::Age(random.pick(&[1, 1, any])),
+    }
+}
+
+/// A list to write.
+fn writing(kind: Kind, random: &mut Random) -> Case {
+    let list = list(kind, random);
+    Case {
+        buffer: output(kind, list.len(), random),
         operation: Operation::Write(kind, columns(kind, &list, random)),
     }
 }

@@ -10,21 +10,23 @@ use super::{Case, Operation, Reply};
 use crate::interface::Answer;
 use crate::plain;
 use crate::plain::crossing::earliest;
-use crate::plain::kinds::{Kind, KINDS, MILLIMETRES, SILENCES};
+use crate::plain::dearest;
+use crate::plain::kinds::{Kind, CENTIMETRES, KINDS, MILLIMETRES, SILENCES};
 use crate::plain::lists::List;
 use crate::plain::table::{Table, NUMBERS};
 use crate::plain::thinning;
-use crate::plain::{Fix, Trail};
+use crate::plain::{Fix, Trail, MOST_FIXES};
 use crate::told::Told;
 
-/// The operations, and what each can be refused for besides checks 1 to 9 and 20; the writer makes only some of those,
-/// and loading none. `after` is the crossing after a list, and `neared` the approach.
+/// The operations, and what each can be refused for besides checks 1 to 9 and 20; the writer and the dearest trail make
+/// only some of those, and loading none. `after` is the crossing after a list, and `neared` the approach.
 /// The listing tells its refusal in its text, so it is counted by what the checks say of its record.
-const OPERATIONS: [(&str, &[usize]); 15] = [
+const OPERATIONS: [(&str, &[usize]); 16] = [
     ("check", &[]),
     ("read", &[]),
     ("columns", &[]),
     ("write", &[15]),
+    ("dearest", &[15]),
     ("list", &[]),
     ("age", &[10]),
     ("load", &[22, 23]),
@@ -70,9 +72,17 @@ fn in_group(group: &'static str, said: Vec<&'static str>) -> Vec<Said> {
     said.into_iter().map(|what| (group, what)).collect()
 }
 
-/// What answers that aren't refusals may say, or what they may be given to, each by its name; with what `near` has of
-/// approaches.
-const SAID: [(&str, &[&str]); 7] = [
+/// What is met of a group.
+pub(super) fn met(
+    group: &'static str,
+    sorts: impl IntoIterator<Item = (bool, &'static str)>,
+) -> Vec<Said> {
+    let met = sorts.into_iter().filter(|(is_met, _)| *is_met);
+    met.map(|(_, what)| (group, what)).collect()
+}
+
+/// What answers may say, or what they may be given to, each by its name; with what `near` has of approaches.
+const SAID: [(&str, &[&str]); 8] = [
     ("crossings", &["yes", "no", NOT_STRAIGHT]),
     ("lists", &["with calls turned away", "with none"]),
     (
@@ -87,9 +97,24 @@ const SAID: [(&str, &[&str]); 7] = [
         "columns",
         &["empty", "too short", "just enough", "longer", "unequal"],
     ),
-    ("agings", &[WIDE, APART, NOT_ACROSS]),
+    (DEAREST, &[LONE, MOST, JUST_ENOUGH, MORE, TOO_FEW, BOTH]),
+    ("agings", &[AS_DEAR, WIDE, APART, NOT_ACROSS]),
     ("silences of agings", &["none", "one", "some", EVERY]),
 ];
+
+/// The dearest trails: how many fixes those have that are written, and what outputs there are, also beside a number of
+/// fixes that check 3 turns away. They are of kind 1.
+const DEAREST: &str = "dearest trails";
+const LONE: &str = "of one fix";
+const MOST: &str = "of 4,096";
+const JUST_ENOUGH: &str = "into just enough";
+const MORE: &str = "into more";
+const TOO_FEW: &str = "into one byte too few";
+const BOTH: &str = "with 3 and 15 at once";
+
+/// Of agings of more than three fixes, since all of three are: as many are measured as of the dearest trail, which is
+/// drawn for it.
+const AS_DEAR: &str = "as dear as can be";
 
 /// Of agings: a sum of squares that 64 bits don't hold, and two of which only the part above 64 bits differs. Kind 1
 /// has neither.
@@ -113,6 +138,8 @@ const CAPPED: &str = "on one of more than 6,000 centimetres";
 fn can_be_said(kind: Kind, group: &str, what: &str) -> bool {
     let of_silences = [NOT_STRAIGHT, NOT_ACROSS].contains(&what) || group.starts_with("silences");
     match what {
+        AS_DEAR => kind == CENTIMETRES,
+        _ if group == DEAREST => kind == CENTIMETRES,
         WIDE | APART | CAPPED | near::WIDE => kind == MILLIMETRES,
         _ => kind == SILENCES || !of_silences,
     }
@@ -124,17 +151,18 @@ fn column(operation: &Operation) -> usize {
         Operation::Read(_) => 1,
         Operation::ReadAll(_) => 2,
         Operation::Write(..) => 3,
-        Operation::List => 4,
-        Operation::Age(_) => 5,
-        Operation::Load(_) => 6,
-        Operation::Days(..) => 7,
-        Operation::Apply(..) => 8,
-        Operation::Run(_) => 9,
-        Operation::Place(_) => 10,
-        Operation::Crosses(_) => 11,
-        Operation::CrossesAfter(..) => 12,
-        Operation::Near(_) => 13,
-        Operation::NearAfter(..) => 14,
+        Operation::Dearest(_) => 4,
+        Operation::List => 5,
+        Operation::Age(_) => 6,
+        Operation::Load(_) => 7,
+        Operation::Days(..) => 8,
+        Operation::Apply(..) => 9,
+        Operation::Run(_) => 10,
+        Operation::Place(_) => 11,
+        Operation::Crosses(_) => 12,
+        Operation::CrossesAfter(..) => 13,
+        Operation::Near(_) => 14,
+        Operation::NearAfter(..) => 15,
     }
 }
 
@@ -160,10 +188,12 @@ fn said(case: &Case, reply: &Reply) -> Vec<Said> {
             let said = said_of_columns(columns.lengths(), answer.value as usize);
             in_group("columns", said)
         }
+        (Operation::Dearest(n), _) => said_of_dearest(*n, case.buffer.len()),
         (Operation::Age(e), Reply::Answer(answer)) if answer.refusal == 0 => {
             let trail = plain::read(&case.buffer);
             trail.map_or(Vec::new(), |trail| match trail.kind {
-                MILLIMETRES => in_group("agings", said_of_sums(&trail)),
+                CENTIMETRES => said_of_count(trail.fixes.len(), answer.value),
+                MILLIMETRES => said_of_sums(&trail),
                 _ => said_of_silences(&trail, *e),
             })
         }
@@ -250,6 +280,28 @@ fn said_of_crossing(case: &Case, answer: &'static str) -> Vec<&'static str> {
     }
 }
 
+/// Of the dearest trail of n fixes, and an output of so many bytes.
+fn said_of_dearest(n: usize, bytes: usize) -> Vec<Said> {
+    // a trail that is longer than the longest needs more
+    let needed = CENTIMETRES.record_length(n.min(MOST_FIXES + 1));
+    let good = (1..=MOST_FIXES).contains(&n);
+    let sorts = [
+        (n == 1 && bytes >= needed, LONE),
+        (n == MOST_FIXES && bytes >= needed, MOST),
+        (good && bytes == needed, JUST_ENOUGH),
+        (good && bytes > needed, MORE),
+        (good && bytes + 1 == needed, TOO_FEW),
+        (!good && bytes < needed, BOTH),
+    ];
+    met(DEAREST, sorts)
+}
+
+/// Of how many of n fixes an aging has measured.
+fn said_of_count(n: usize, measured: u32) -> Vec<Said> {
+    let as_dear = n > 3 && measured == dearest::count(n);
+    met("agings", [(as_dear, AS_DEAR)])
+}
+
 fn said_of_silences(trail: &Trail, e: u16) -> Vec<Said> {
     let Trail { fixes, .. } = trail;
     let silent = fixes.iter().filter(|fix| fix.is_before_silence()).count();
@@ -285,29 +337,27 @@ fn said_of_columns(lengths: [usize; 4], count: usize) -> Vec<&'static str> {
 }
 
 /// Of the sums that the whole trail's inner fixes have.
-fn said_of_sums(trail: &Trail) -> Vec<&'static str> {
+fn said_of_sums(trail: &Trail) -> Vec<Said> {
     let mut sums = thinning::sums(&trail.fixes);
     let low = |sum: &i128| *sum as u64;
     sums.sort_by_key(|sum| (low(sum), *sum));
     let mut pairs = sums.windows(2);
     let wide = sums.iter().any(|&sum| sum != low(&sum).into());
     let apart = pairs.any(|pair| low(&pair[0]) == low(&pair[1]) && pair[0] != pair[1]);
-    let both = [(wide, WIDE), (apart, APART)];
-    both.into_iter()
-        .filter(|(met, _)| *met)
-        .map(|(_, what)| what)
-        .collect()
+    met("agings", [(wide, WIDE), (apart, APART)])
 }
 
 /// Whether the documents have this refusal among the operation's, about this kind.
 fn possible(kind: Kind, column: usize, refusal: usize) -> bool {
     let (name, own) = OPERATIONS[column];
-    let writes = name == "write";
-    let loads = name == "load";
-    let makes = match refusal {
-        0 => true,
-        20 => !loads,
-        1..=9 => !loads && (!writes || [3, 7, 8, 9].contains(&refusal)),
+    let makes = match (refusal, name) {
+        // which is always of kind 1
+        (_, "dearest") if kind != CENTIMETRES => false,
+        (0, _) => true,
+        (1..=9 | 20, "load") => false,
+        (1..=9 | 20, "dearest") => refusal == 3,
+        (1..=9, "write") => [3, 7, 8, 9].contains(&refusal),
+        (1..=9 | 20, _) => true,
         _ => own.contains(&refusal),
     };
     makes && kind.can_fail(refusal as u32)

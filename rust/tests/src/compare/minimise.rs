@@ -59,6 +59,7 @@ impl Search<'_> {
         self.shorten(Case::fixes, Case::without_fixes);
         self.shorten(Case::rows, Case::without_rows_and_output);
         self.shorten(Case::rows, Case::without_rows);
+        self.lessen(&Case::dearest, &Case::with_dearest_and_output);
         self.shorten_columns();
         self.shorten(Case::listed, Case::without_listed);
         self.shorten(Case::tables_lent, Case::without_tables);
@@ -171,12 +172,18 @@ impl Search<'_> {
 const HEAD: usize = 10;
 
 impl Case {
-    /// The columns that are written; then the buffer is the output, and holds no record.
+    /// The columns that are written.
     fn written(&self) -> Option<&Columns> {
         match &self.operation {
             Operation::Write(_, columns) => Some(columns),
             _ => None,
         }
+    }
+
+    /// Whether the buffer has a head: an output holds no record yet.
+    fn has_head(&self) -> bool {
+        let is_output = matches!(self.operation, Operation::Write(..) | Operation::Dearest(_));
+        !is_output && self.buffer.len() >= HEAD
     }
 
     /// The columns that a record is read into.
@@ -207,7 +214,7 @@ impl Case {
 
     /// How many fixes the buffer has in full, if it holds a record, damaged or not.
     fn fixes(&self) -> usize {
-        if self.written().is_some() || self.buffer.len() < HEAD {
+        if !self.has_head() {
             return 0;
         }
         let count = u16::from_le_bytes([self.buffer[8], self.buffer[9]]);
@@ -272,6 +279,24 @@ impl Case {
         let mut case = self.without_rows(range.clone());
         let less = self.form().fix_bytes() * range.len();
         case.buffer.truncate(self.buffer.len().saturating_sub(less));
+        case
+    }
+
+    /// How many fixes the dearest trail is to have.
+    fn dearest(&self) -> i128 {
+        match self.operation {
+            Operation::Dearest(n) => n as i128,
+            _ => 0,
+        }
+    }
+
+    /// The dearest trail of fewer fixes, so that an output is as much too short, or too long, as it was.
+    fn with_dearest_and_output(&self, n: i128) -> Case {
+        let mut case = self.clone();
+        let less = CENTIMETRES.fix_bytes() as i128 * (self.dearest() - n);
+        let left = (self.buffer.len() as i128 - less).max(0);
+        case.buffer.truncate(left as usize);
+        case.operation = Operation::Dearest(n as usize);
         case
     }
 
@@ -424,7 +449,7 @@ impl Case {
 
     /// Where the bytes begin that are no head and no fix in full: of an output, all.
     fn rest_from(&self) -> usize {
-        if self.written().is_some() || self.buffer.len() < HEAD {
+        if !self.has_head() {
             return 0;
         }
         self.at(self.fixes())
@@ -622,6 +647,7 @@ impl Case {
                 x.iter_mut().chain(y).for_each(|n| visit(n, change));
                 silence.iter_mut().for_each(|n| visit(n, change));
             }
+            Operation::Dearest(n) => visit(n, change),
             Operation::Age(n) => visit(n, change),
             Operation::Load(RowColumns { days, tolerances }) => {
                 let both = days.iter_mut().chain(tolerances);

@@ -1,6 +1,6 @@
 //! The sorts of approaches that a run must meet, each with the group in which it is counted.
 
-use super::met::{Said, NOT_STRAIGHT};
+use super::met::{met, Said, NOT_STRAIGHT};
 use crate::plain::approach::{first, legs, Approach, Circle, Passing};
 use crate::plain::kinds::Kind;
 use crate::plain::place::{Place, Time};
@@ -55,12 +55,6 @@ pub const SAID: [(&str, &[&str]); 6] = [
     ),
     (REFUSED, &OUTSIDE),
 ];
-
-/// What is met of a group.
-fn met(group: &'static str, sorts: impl IntoIterator<Item = (bool, &'static str)>) -> Vec<Said> {
-    let met = sorts.into_iter().filter(|(is_met, _)| *is_met);
-    met.map(|(_, what)| (group, what)).collect()
-}
 
 /// Of a circle that check 16 turns away.
 pub fn said_of_refused(kind: Kind, circle: &Circle) -> Vec<Said> {

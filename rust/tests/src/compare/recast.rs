@@ -25,7 +25,8 @@ pub fn differing(side: &dyn Fn(&Case) -> Outcome, case: &Case) -> Option<Case> {
 }
 
 /// The case of this kind. It has none if its record isn't accepted or isn't in centimetres, if a tolerance or an edge
-/// isn't one any more, also what days apply, and if it is a listing, which has its places in digits, or has no record.
+/// isn't one any more, also what days apply, and if it is a listing, which has its places in digits, has no record, or
+/// writes one that is always of kind 1.
 pub(super) fn recast(case: &Case, kind: Kind) -> Option<Case> {
     let operation = asked(&case.operation, kind)?;
     let buffer = match &case.operation {
@@ -105,7 +106,7 @@ fn circle(circle: &Circle, kind: Kind) -> Option<Circle> {
 
 fn asked(operation: &Operation, to: Kind) -> Option<Operation> {
     Some(match operation {
-        Operation::List | Operation::Load(_) => return None,
+        Operation::List | Operation::Load(_) | Operation::Dearest(_) => return None,
         Operation::Write(kind, columns) if *kind == CENTIMETRES => {
             let mut columns = columns.clone();
             further(&mut columns, to, usize::MAX);

@@ -24,6 +24,9 @@ pub const SECOND: u32 = 103;
 pub const THOUSANDTHS: u16 = 250;
 pub const OUTPUT_BYTES: usize = 40;
 
+/// How many fixes the dearest trail has: there is room for so many.
+pub const N: usize = 3;
+
 /// How many elements are lent of each column.
 pub const COUNTS: [usize; 4] = [1, 2, 3, 4];
 
@@ -164,6 +167,7 @@ pub fn arguments() -> Vec<(&'static str, String)> {
         ("y_count", y.to_string()),
         ("silence_count", silence.to_string()),
         ("output_bytes", OUTPUT_BYTES.to_string()),
+        ("n", N.to_string()),
         ("tolerance", TOLERANCE.to_string()),
         ("days", DAYS.to_string()),
         ("second", SECOND.to_string()),

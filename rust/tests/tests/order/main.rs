@@ -12,7 +12,9 @@ use declared::{in_header, in_rust, Function};
 use fields::{layouts, of_anchored, of_answer, of_applied, of_approach, of_crossing, of_first};
 use fields::{of_head, of_loaded, of_place, of_run, of_state, of_step, of_table, of_time, Layout};
 use in_c::{from_c, printed, InC};
-use lent::{agings, lent_rows, table, Lent, BEFORE_SILENCE, COUNTS, DAYS, OUTPUT_BYTES, POSITION};
+use lent::{
+    agings, lent_rows, table, Lent, BEFORE_SILENCE, COUNTS, DAYS, N, OUTPUT_BYTES, POSITION,
+};
 use lent::{lent_readings, state_in_c, CIRCLE, QUESTION, READING_COUNTS, ROW_COUNTS, SECOND};
 use lent::{STATE, STEP, THOUSANDTHS, TOLERANCE};
 use trails_tests::plain::anchors::Reading;
@@ -111,6 +113,7 @@ fn plainly(name: &str) -> Vec<i64> {
         "trails_write" => plain_write(CENTIMETRES, &mut lent),
         "trails_write_millimetres" => plain_write(MILLIMETRES, &mut lent),
         "trails_write_silences" => plain_write(SILENCES, &mut lent),
+        "trails_dearest" => of_answer(expected::dearest(N, &mut lent.output[..OUTPUT_BYTES])),
         "trails_list" => {
             let text = plain::listing(record).into_bytes();
             lent.output[..text.len()].copy_from_slice(&text);
@@ -184,6 +187,7 @@ fn from_rust(name: &str) -> Vec<i64> {
             let output = &mut lent.output[..OUTPUT_BYTES];
             of_answer(interface::write(written_by(name), &columns, output))
         }
+        "trails_dearest" => of_answer(interface::dearest(N, &mut lent.output[..OUTPUT_BYTES])),
         "trails_list" => vec![interface::list(record, &mut lent.output) as i64],
         "trails_age" => of_answer(interface::age(record, TOLERANCE)),
         "trails_load" => of_loaded(interface::load(&lent_rows())),

@@ -4,6 +4,7 @@
 mod anchors;
 mod answers;
 mod approaches;
+mod dearest;
 mod folder;
 mod links;
 mod pictures;

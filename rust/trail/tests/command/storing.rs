@@ -6,10 +6,6 @@ use std::os::unix::process::CommandExt;
 use std::process::{Command, Stdio};
 use std::time::Duration;
 
-use trails_tests::plain::kinds::CENTIMETRES;
-use trails_tests::plain::Trail;
-use trails_tests::shapes::dearest;
-
 use crate::folder::{trail_h, trail_h_at_12, Folder, Ran, AGED_H, AGE_H, PROGRAM};
 
 #[test]
@@ -218,8 +214,7 @@ fn people_at_a_terminal_see_how_far_the_work_is() {
 #[test]
 fn the_deepest_trail_is_aged_under_a_small_stack_limit() {
     let folder = Folder::new();
-    let dearest = Trail::never_thinned(CENTIMETRES, dearest(4_096));
-    folder.put("t", dearest.bytes());
+    folder.run_line("dearest 4096 -o t").says("");
     let words = ["age", "--tolerance", "1", "t"];
     let ran = folder.run_in_shell("ulimit -s 256; exec \"$@\"", &words);
     ran.says("t: kept 4096 of 4096 fixes, measured 8382465, mark 1 cm, freed 0 bytes\n");

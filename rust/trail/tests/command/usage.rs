@@ -8,8 +8,8 @@ use trails_tests::cases::Random;
 
 use crate::folder::{trail_h, trail_h_at_12, Folder, Ran, AGED_H, AGE_H, PROGRAM};
 
-const NAMES: [&str; 10] = [
-    "list", "check", "write", "age", "table", "place", "cross", "near", "replay", "plot",
+const NAMES: [&str; 11] = [
+    "list", "check", "write", "dearest", "age", "table", "place", "cross", "near", "replay", "plot",
 ];
 
 #[test]
@@ -31,7 +31,7 @@ fn help_is_printed_for_the_command_and_each_of_its_commands() {
 }
 
 /// Words that no command takes. There is a trail `h`.
-const WRONG: [&str; 66] = [
+const WRONG: [&str; 75] = [
     "",
     "lists h",
     "list",
@@ -53,6 +53,15 @@ const WRONG: [&str; 66] = [
     "write --silence-after -1 h -o t",
     "write --silence-after 4294967296 h -o t",
     "write --silence-after 5 --millimetres h -o t",
+    "dearest",
+    "dearest 5",
+    "dearest -o t",
+    "dearest 5 6 -o t",
+    "dearest h -o t",
+    "dearest -1 -o t",
+    "dearest 18446744073709551616 -o t",
+    "dearest --json 5 -o -",
+    "dearest --force 5 -o t",
     "age h",
     "age --tolerance 5",
     "age --tolerance h",
@@ -154,13 +163,14 @@ fn texts_above_8_mib_are_turned_away() {
 }
 
 /// Commands that print an answer, on `h`. The last one changes it.
-const ANSWERS: [&str; 10] = [
+const ANSWERS: [&str; 11] = [
     "list h",
     "check h h",
     "place h 5 --json",
     "place h 31 --json",
     "near h --point 0 1 --radius 2",
     "age --tolerance 12 h -o -",
+    "dearest 5 -o -",
     "plot h -o -",
     "table",
     "--help",
@@ -209,7 +219,7 @@ fn a_reader_that_hangs_up_is_told() {
 }
 
 /// Wrong words, and what the message has before it names the help.
-const WRONG_VALUES: [(&str, &str); 28] = [
+const WRONG_VALUES: [(&str, &str); 31] = [
     (
         "cross h --window 0 1 --box 0 1 0",
         "--box takes X0 X1 Y0 Y1, and Y1 is missing",
@@ -280,6 +290,12 @@ const WRONG_VALUES: [(&str, &str); 28] = [
     (
         "write h --silence-after=1.5 -o t",
         "--silence-after, SECONDS: '1.5' isn't a whole number from 0 to 4,294,967,295",
+    ),
+    ("dearest -o t", "it takes one number of fixes"),
+    ("dearest 5", "-o OUT is missing"),
+    (
+        "dearest 1.5 -o t",
+        "'1.5' isn't a whole number from 1 to 4,096",
     ),
     ("age --days 7 h -o", "-o takes OUT"),
     ("age --days 7 h --table", "--table takes FILE"),

@@ -2,7 +2,7 @@ use mathlib.Core.Path.{refl}
 use mir.Facts.{toZ-ofZ}
 use mir.Syntax.{w32}
 use mir.Val.{SFits}
-use Rattle.record.specs.Laws.Scan.{OutsideFits, outside-fits, none-outside, from-zero}
+use Rattle.record.specs.Laws.Scan.{BothSigns, both-signs, none-outside, from-zero}
 use borrow.Author.Needs.{needs}
 use Rattle.record.proofs.checking.outside.Statement.{statement}
 use Rattle.record.proofs.checking.outside.Tie as tie
@@ -16,18 +16,18 @@ returns c = none-outside _ _ (word (c .before)) (c .if1 .taken)
 cast-far : tie.Need-cast-far
 cast-far c = search needs
 
-ranges : (c : tie.Else1) → OutsideFits (c .before .args .limit)
-ranges c = outside-fits (c .if1 .left)
+ranges : (c : tie.Else1) → BothSigns (c .before .args .limit)
+ranges c = both-signs (c .if1 .left)
 
 sub-result : tie.Need-sub-result
-sub-result c = let k = ranges c in rw (k .far) (k .minus)
+sub-result c = let k = ranges c in rw (k .plus) (k .minus)
 
 returns-2 : tie.Need-returns-2
 returns-2 c =
     let s = c .before .before .before .before .before in
     let z = word s in
     let k = ranges (c .before .before .before .before) in
-    rw (k .far) (simp (toZ-ofZ, z, k .minus) (rw (from-zero (s .args .limit)) refl))
+    rw (k .plus) (simp (toZ-ofZ, z, k .minus) (rw (from-zero (s .args .limit)) refl))
 
 pub outside-spec : {M : Type 1} → statement M
 outside-spec = tie.close (tie.spec returns cast-far sub-result returns-2)

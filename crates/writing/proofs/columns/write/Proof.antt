@@ -1,25 +1,25 @@
 use mathlib.Core.Path.{_≡_, sym, _∙_, ap, subst}
 use mathlib.Core.List.{List}
-use mathlib.Core.Option.{none}
-use Prim.Native.Nat.{ℕ, _≤_}
+use Prim.Native.Nat.{ℕ}
+use native.Mathlib.Omega.{arith}
 use lib.ListN.{length}
 use lib.Seq.{sets, length-sets}
 use denote.Ref.{now}
 use Rattle.distance.specs.Fix.{Fix, Bounded}
-use Rattle.format.specs.Kinds.{Kind, layout}
-use Rattle.format.specs.Format.{record-length, each, all-bytes, header-bytes}
-use Rattle.format.specs.Laws.Kinds.{is-kind}
-use Rattle.record.specs.Laws.Accepted.{places-good}
-use Rattle.record.specs.Checks.{refusal, writing}
-use Rattle.writing.specs.Writing.{asked-to-write, column-fix, columns, write-refusal, ReadsBack}
-use Rattle.record.specs.Answers.{gives, refused}
 use Rattle.distance.specs.Laws.All.{All}
+use Rattle.format.specs.Kinds.{Kind, layout}
+use Rattle.format.specs.Format.{each, all-bytes, header-bytes}
+use Rattle.format.specs.Laws.Kinds.{is-kind}
+use Rattle.format.specs.Laws.Each.{length-each}
+use Rattle.record.specs.Checks.{sentence, first, fix-checks}
+use Rattle.record.specs.Laws.Accepted.{places-good}
 use Rattle.record.specs.Laws.First.{some-none}
 use Rattle.record.specs.Laws.Scan.{Timed}
+use Rattle.writing.specs.Writing.{asked-to-write, column-fix, columns, ReadsBack}
+use Rattle.writing.specs.Answers.{wrote}
+use Rattle.writing.specs.Laws.Writing.{writes-fit, Begun, begun-refused, begun-done}
 use Rattle.writing.specs.Laws.ReadsBack.{writes-good, writes-back, columns-sayable}
-use Rattle.format.specs.Laws.Each.{length-each}
-use Rattle.writing.specs.Laws.Writing.{writes-fit, writes-length, writes-record, writes-refusal}
-use native.Mathlib.Omega.{arith}
+use Rattle.writing.specs.declared.Written.{Written}
 use borrow.Author.Needs.{needs}
 use Rattle.writing.proofs.columns.write.Statement.{statement}
 use Rattle.writing.proofs.columns.write.Tie as tie
@@ -39,30 +39,28 @@ abbrev asked : tie.Start → Kind
 asked s = layout (s .args .kind)
 
 -- where the function began, and where the columns were counted
-abbrev begun : tie.After-columns-count → tie.Start
-begun c = c .before .before .before .before
+abbrev start : tie.After-begin-record → tie.Start
+start c = c .before .before .before .before .before .before .before
 
-abbrev counted : tie.After-enum-told → tie.After-columns-count
+abbrev counted : tie.After-begin-record → tie.After-columns-count
 counted c = c .before .before .before
 
--- n is the length of that list ..
-length-is : (c : tie.After-columns-count) → length (lent (begun c)) ≡ c .columns-count .result
-length-is c = length-each _ 0 _ ∙ sym (c .columns-count .ensures)
+-- n is the length of that list
+length-is : (c : tie.After-begin-record) → length (lent (start c)) ≡ counted c .columns-count .result
+length-is c = length-each _ 0 _ ∙ sym (counted c .columns-count .ensures)
 
--- .. and the verdict is the writer's
-verdict-is : (c : tie.After-columns-say) → let s = begun (c .before) in refused (c .columns-say .result) ≡ write-refusal (asked s) (lent s) (output s)
-verdict-is c =
-    let s = begun (c .before) in
-    c .columns-say .ensures .0 ∙ ap (λ (k : ℕ). refusal (asked s) writing (asked-to-write (each (fix-of s) 0 k) (length (output s)))) (c .before .columns-count .ensures)
+timed : (c : tie.After-begin-record) → All Timed (lent (start c))
+timed c = subst (λ (k : ℕ). All Timed (each (fix-of (start c)) 0 k)) (counted c .columns-count .ensures) (c .before .before .columns-say .ensures .1)
 
-timed : (c : tie.After-columns-say) → All Timed (lent (begun (c .before)))
-timed c = subst (λ (k : ℕ). All Timed (each (fix-of (begun (c .before))) 0 k)) (c .before .columns-count .ensures) (c .columns-say .ensures .1)
-
-accepted : (c : tie.After-enum-told) → let s = begun (counted c) in write-refusal (asked s) (lent s) (output s) ≡ none
-accepted c = sym (verdict-is (c .before .before)) ∙ ap refused (c .enum-told .given .1)
-
-fit : (c : tie.After-enum-told) → let n = counted c .columns-count .result in (n ≤ 4096) × (record-length (asked (begun (counted c))) n ≤ length (output (begun (counted c))))
-fit c = let s = begun (counted c) in rw (length-is (counted c)) at (writes-fit (asked s) (lent s) (length (output s)) (accepted c))
+-- so the writer begins with it
+begun : (c : tie.After-begin-record) (w : Written) → c .begin-record .result ≡ w → let s = start c in Begun (asked s) (lent s) (output s) (wrote w) (c .begin-record .last .1 .1 .1 .0)
+begun c w e =
+    let s = start c in
+    subst (λ w. Begun (asked s) (lent s) (output s) (wrote w) (c .begin-record .last .1 .1 .1 .0)) e
+    (c .begin-record .ensures (lent s) (length-is c)
+    (λ one few.
+    c .before .before .columns-say .ensures .0 (length (output s)) one
+    ∙ ap (λ (k : ℕ). first (sentence (asked s) (asked-to-write (each (fix-of s) 0 k) (length (output s)))) fix-checks) (counted c .columns-count .ensures)))
 
 columns-count-requires : tie.Need-columns-count-requires
 columns-count-requires c κs = search needs
@@ -70,64 +68,52 @@ columns-count-requires c κs = search needs
 columns-say-requires : tie.Need-columns-say-requires
 columns-say-requires c κs = search needs
 
-enum-known-v : tie.Need-enum-known-v
-enum-known-v c = search needs
+begin-record-requires : tie.Need-begin-record-requires
+begin-record-requires c κs = search needs
 
-enum-told : tie.Need-enum-told
-enum-told c = search needs
+enum-known-w : tie.Need-enum-known-w
+enum-known-w c = search needs
 
-cast-put-head : tie.Need-cast-put-head
-cast-put-head c = let h = fit (c .before) in search needs
-
-put-head-requires : tie.Need-put-head-requires
-put-head-requires c κs = let h = fit (c .before) in search needs
-
--- no place of the list is outside, so each fits its bytes
-inside : (c : tie.After-enum-told) → let s = begun (counted c) in All (Bounded (asked s .limit)) (each (fix-of s) 0 (counted c .columns-count .result))
-inside c =
-    let s = begun (counted c) in
-    let good = writes-good (asked s) (lent s) (length (output s)) (accepted c) .1 in
-    subst (λ (k : ℕ). All (Bounded (asked s .limit)) (each (fix-of s) 0 k)) (sym (counted c .columns-count .ensures)) (places-good (asked s .limit) (lent s) (good .inside))
+enum-known-w-2 : tie.Need-enum-known-w-2
+enum-known-w-2 c = search needs
 
 put-columns-requires : tie.Need-put-columns-requires
 put-columns-requires c κs =
-    let told = c .before .before .before .before .before in
-    let s = begun (counted told) in
-    let h = fit told in
-    let same = ap length (c .before .before .before .put-head .ensures) ∙ length-sets (output s) 0 (header-bytes (asked s) 65535 (counted told .columns-count .result)) in
-    (rw (counted told .columns-count .ensures) (omega arith), h .0, rw same (h .1), inside told)
-
-cast-record-length : tie.Need-cast-record-length
-cast-record-length c = let h = fit (c .before .before .before .before .before .before .before .before) in search needs
-
-record-length-requires : tie.Need-record-length-requires
-record-length-requires c κs = let h = fit (c .before .before .before .before .before .before .before .before) in search needs
-
-returns : tie.Need-returns
-returns c =
-    let s = begun (c .before .before .before .before) in
-    let e = sym (verdict-is (c .before .before .before)) ∙ ap refused (c .before .v .given .1) in
-    let k = writes-refusal (asked s) (lent s) (output s) _ e in
-    (k .0, k .1, λ h. absurd (some-none (sym e ∙ h)))
+    let at = c .before .before .before .before .before .before in
+    let s = start at in
+    let n = counted at .columns-count .result in
+    let begins = begun at _ (c .before .before .w2 .given .1) in
+    let fit = writes-fit (asked s) (lent s) (length (output s)) (begins .0) in
+    let same = ap length (begins .2) ∙ length-sets (output s) 0 (header-bytes (asked s) 65535 (length (lent s))) in
+    let good = writes-good (asked s) (lent s) (length (output s)) (begins .0) .1 in
+    let inside = subst (λ (k : ℕ). All (Bounded (asked s .limit)) (each (fix-of s) 0 k)) (sym (counted at .columns-count .ensures)) (places-good (asked s .limit) (lent s) (good .inside)) in
+    (rw (counted at .columns-count .ensures) (omega arith), rw (length-is at) at (fit .0), rw same (rw (length-is at) at (fit .1)), inside)
 
 same-length : tie.Need-same-length
 same-length c = search needs
 
+returns : tie.Need-returns
+returns c =
+    let at = c .before .before .before .before .before in
+    let s = start at in
+    let b = begun at _ (c .before .w .given .1) in
+    let k = begun-refused (asked s) (lent s) (output s) _ _ b in
+    (k .0, k .1, λ h. absurd (some-none (sym (b .0) ∙ h)))
+
+same-length-2 : tie.Need-same-length-2
+same-length-2 c = search needs
+
 returns-2 : tie.Need-returns-2
 returns-2 c =
-    let told = c .before .before .before .before .before .before .before .before .before in
-    let s = begun (counted told) in
-    let K = asked s in
+    let at = c .before .before .before .before .before .before .before .before .before in
+    let s = start at in
     let kind = is-kind (s .args .kind) in
-    let n = counted told .columns-count .result in
-    let is = length-is (counted told) in
-    let a = accepted told in
+    let begins = begun at _ (c .before .before .before .before .before .w2 .given .1) in
     let put =
-    c .before .before .before .put-columns .ensures
-    ∙ ap (λ (o : List ℕ). sets o 10 (all-bytes K (each (fix-of s) 0 n))) (c .before .before .before .before .before .before .before .put-head .ensures)
-    ∙ ap (λ (k : ℕ). sets (sets (output s) 0 (header-bytes K 65535 n)) 10 (all-bytes K (each (fix-of s) 0 k))) (counted told .columns-count .ensures)
-    ∙ writes-record K kind (lent s) (output s) n is a in
-    (ap gives (c .record-length .ensures) ∙ writes-length K kind (lent s) (output s) n is a, put, λ _. subst (ReadsBack K (lent s)) (sym put) (writes-back (s .args .kind) (lent s) (output s) (timed (told .before .before)) (columns-sayable (s .args .kind) (now (s .args .ts)) (now (s .args .xs)) (now (s .args .ys)) (now (s .args .silences))) a))
+    c .before .before .put-columns .ensures ∙ ap (λ (k : ℕ). sets (at .begin-record .last .1 .1 .1 .0) 10 (all-bytes (asked s) (each (fix-of s) 0 k))) (counted at .columns-count .ensures) in
+    let done = begun-done (asked s) (lent s) (output s) _ kind _ begins _ put in
+    let sayable = columns-sayable (s .args .kind) (now (s .args .ts)) (now (s .args .xs)) (now (s .args .ys)) (now (s .args .silences)) in
+    (done .0, done .1, λ _. subst (ReadsBack (asked s) (lent s)) (sym (done .1)) (writes-back (s .args .kind) (lent s) (output s) (timed at) sayable (begins .0)))
 
 pub write-spec : {M : Type 1} → statement M
 write-spec =
@@ -135,13 +121,11 @@ write-spec =
     (tie.spec
     columns-count-requires
     columns-say-requires
-    enum-known-v
-    enum-told
-    cast-put-head
-    put-head-requires
+    begin-record-requires
+    enum-known-w
+    enum-known-w-2
     put-columns-requires
-    cast-record-length
-    record-length-requires
-    returns
     same-length
+    returns
+    same-length-2
     returns-2)
