@@ -15,7 +15,6 @@ use Rattle.format.specs.Kinds.{trail}
 use Rattle.format.specs.Format.{record-length}
 use Rattle.format.specs.Laws.Each.{length-each, each-all}
 use Rattle.record.specs.Checks.{Check, bad-count, short-output, sentence, first, fix-checks}
-use Rattle.record.specs.Answers.{gives}
 use Rattle.record.specs.Laws.First.{stops, passes, none-first}
 use Rattle.record.specs.Laws.Scan.{Timed}
 use Rattle.record.specs.Laws.Accepted.{good-fixes}

@@ -17,12 +17,12 @@ use Rattle.format.specs.Kinds.{Kind}
 use Rattle.format.specs.Format.{record-length, each, all-bytes, fix-bytes, header-bytes}
 use Rattle.format.specs.Laws.Kinds.{IsKind, one-more, longest}
 use Rattle.record.specs.Checks.{first, fix-checks}
-use Rattle.writing.specs.Writing.{write-refusal, write-answer, written}
+use Rattle.writing.specs.Writing.{write-answer, written}
 use Rattle.record.specs.Answers.{Answer, gives, turns-away}
 use Rattle.format.specs.Laws.Each.{each-more, each-shift}
 use Rattle.record.specs.Laws.Scan.{Timed, none-timed, Scanned}
 use Rattle.format.specs.Laws.Stores.{sets-then}
-use Rattle.writing.specs.Laws.Writing.{says, writes-fit, writes-length, writes-record, writes-refusal, none-turned-away}
+use Rattle.writing.specs.Laws.Writing.{says, writes-fit, Begun, begun-refused, begun-done, none-turned-away}
 use Rattle.format.specs.Laws.Layout.{length-all-bytes, all-bytes-more}
 
 -- what a pass is for
@@ -62,8 +62,8 @@ Room-for K m (Refused k) output = Unit {0}
 abbrev pub Prepared : Kind → List Fix → List ℕ → Stage → List ℕ → Type 0
 Prepared K s l Begins c = ⊥
 Prepared K s l (Checks r) c = ⊥
-Prepared K s l (Puts at) c = (at ≡ 10) × (write-refusal K s l ≡ none) × (c ≡ sets l 0 (header-bytes K 65535 (length s)))
-Prepared K s l (Refused k) c = (write-refusal K s l ≡ some k) × (c ≡ l)
+Prepared K s l (Puts at) c = (at ≡ 10) × Begun K s l (gives (record-length K (length s))) c
+Prepared K s l (Refused k) c = Begun K s l (turns-away k) c
 
 -- what the passes say of the stage p and the output c when they have the stage r and the output d: of one fix more, for which a place of the room goes; of all the
 -- fixes s; and of the checks between them, of any n fixes
@@ -165,9 +165,6 @@ passed-timed K l c s (Puts at) h = absurd h
 passed-timed K l c s (Refused k) h = absurd h
 
 -- ---- between the passes, and after the second
-pub ready-refused : (K : Kind) (s : List Fix) (l : List ℕ) (k : ℕ) → write-refusal K s l ≡ some k → Prepared K s l (Refused k) l
-ready-refused K s l k h = (h, refl)
-
 -- what the pass is for that a stage begins
 abbrev pub task-of : Stage → Task
 task-of Begins = checks
@@ -183,9 +180,9 @@ module _ (K : Kind) (is : IsKind K) (s : List Fix) (l : List ℕ) where
   pub ready-room : (p : Stage) (c : List ℕ) → Prepared K s l p c → Room-for K (length s) p (length c)
   ready-room Begins c x = tt
   ready-room (Checks r) c x = tt
-  ready-room (Puts at) c (e, none-refused, holds) =
-      let fits = writes-fit K s (length l) none-refused .1 in
-      let same : length c ≡ length l = ap length holds ∙ length-sets l 0 (header-bytes K 65535 (length s)) in
+  ready-room (Puts at) c (e, begun) =
+      let fits = writes-fit K s (length l) (begun .0) .1 in
+      let same : length c ≡ length l = ap length (begun .2) ∙ length-sets l 0 (header-bytes K 65535 (length s)) in
       omega (arith, e, fits, same)
   ready-room (Refused k) c x = tt
 
@@ -193,7 +190,7 @@ module _ (K : Kind) (is : IsKind K) (s : List Fix) (l : List ℕ) where
   unfolding all-bytes
   ready-passes Begins c x = absurd x
   ready-passes (Checks r) c x = absurd x
-  ready-passes (Puts at) c (e, none-refused, holds) = (e ∙ sym start, refl)
+  ready-passes (Puts at) c (e, begun) = (e ∙ sym start, refl)
   ready-passes (Refused k) c x = (refl, refl)
 
   -- so the stage ends as the writer does
@@ -201,12 +198,13 @@ module _ (K : Kind) (is : IsKind K) (s : List Fix) (l : List ℕ) where
   passes-end p r c d ready passed = go p r ready passed
     where
       go : (p r : Stage) → Prepared K s l p c → Passed K (task-of p) c s r d → Finished r × (stage-answer r ≡ write-answer K s l) × (d ≡ written K s l)
-      go (Puts at) (Puts end) (e, none-refused, holds) (stands, put) =
-          let few = writes-fit K s (length l) none-refused .0 in
-          (omega (arith, stands, longest K is (length s) few), ap gives stands ∙ writes-length K is s l (length s) refl none-refused, put ∙ rw holds (writes-record K is s l (length s) refl none-refused))
-      go (Refused k) (Refused j) (refuses, same) (e, kept) =
-          let w = writes-refusal K s l k refuses in
-          (tt, ap turns-away e ∙ w .0, kept ∙ same ∙ w .1)
+      go (Puts at) (Puts end) (e, begun) (stands, put) =
+          let few = writes-fit K s (length l) (begun .0) .0 in
+          let done = begun-done K s l c is (record-length K (length s)) begun d put in
+          (omega (arith, stands, longest K is (length s) few), ap gives stands ∙ done .0, done .1)
+      go (Refused k) (Refused j) begun (e, kept) =
+          let done = begun-refused K s l c k begun in
+          (tt, ap turns-away e ∙ done .0, kept ∙ done .1)
       go (Puts at) Begins h x = absurd x
       go (Puts at) (Checks q) h x = absurd x
       go (Puts at) (Refused j) h x = absurd x

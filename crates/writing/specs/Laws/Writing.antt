@@ -79,28 +79,20 @@ writes-fit K l output h = go (none-holds (says K l output) (bad-count ∷ (fix-c
     go (and-not h3 (and-not h7 (and-not h8 (and-not h9 (and-not h20 (and-not h15 no-check)))))) =
         (ltb-false 4096 (length l) (neither (eqb (length l) 0) (ltb 4096 (length l)) h3 .1), ltb-false output (record-length K (length l)) h15)
 
--- the answer and the output, as the definitions have them; n is the length of the list
-module _ (K : Kind) (kind : IsKind K) (l : List Fix) (out : List ℕ) (n : ℕ) (is : length l ≡ n) (h : write-refusal K l out ≡ none) where
-  pub writes-length : gives (record-length K n) ≡ write-answer K l out
-  writes-length = rw (h, is) refl
-
-  pub writes-record : sets (sets out 0 (header-bytes K 65535 n)) 10 (all-bytes K l) ≡ written K l out
-  writes-record = rw (← is) (record-stores K kind out 65535 l (writes-fit K l (length out) h .1) ∙ rw h refl)
-
--- how a writer begins: what it answers of the list l, and the output after that, which has the head if nothing turns the list away
+-- ---- how a writer begins: what it answers of the list l, and the output after that, which has the head if nothing turns the list away
 abbrev pub Begun : Kind → List Fix → (out : List ℕ) → Answer ℕ → (begun : List ℕ) → Type 0
 Begun K l out (turns-away k) begun = (write-refusal K l out ≡ some k) × (begun ≡ out)
 Begun K l out (gives bytes) begun = (write-refusal K l out ≡ none) × (bytes ≡ record-length K (length l)) × (begun ≡ sets out 0 (header-bytes K 65535 (length l)))
 
-pub writes-refusal : (K : Kind) (l : List Fix) (out : List ℕ) (k : ℕ) → write-refusal K l out ≡ some k → (turns-away k ≡ write-answer K l out) × (out ≡ written K l out)
-writes-refusal K l out k h = (rw h refl, rw h refl)
-
+-- the answer and the output are then the definition's: of a list that is turned away, ..
 module _ (K : Kind) (l : List Fix) (out begun : List ℕ) where
   pub begun-refused : (k : ℕ) → Begun K l out (turns-away k) begun → (turns-away k ≡ write-answer K l out) × (begun ≡ written K l out)
-  begun-refused k (h, same) = let w = writes-refusal K l out k h in (w .0, same ∙ w .1)
+  begun-refused k (h, same) = (rw h refl, same ∙ rw h refl)
 
-  -- .. and with its fixes after the head it is the record
+  -- .. and of one whose fixes are put down after the head
   pub begun-done : IsKind K → (bytes : ℕ) → Begun K l out (gives bytes) begun → (after : List ℕ) → after ≡ sets begun 10 (all-bytes K l)
       → (gives bytes ≡ write-answer K l out) × (after ≡ written K l out)
-  begun-done kind bytes (h, long, head) after put =
-      (ap gives long ∙ writes-length K kind l out (length l) refl h, put ∙ ap (λ (o : List ℕ). sets o 10 (all-bytes K l)) head ∙ writes-record K kind l out (length l) refl h)
+  begun-done kind bytes (h, long, head) after put = (
+    ap gives long ∙ rw h refl,
+    put ∙ ap (λ (o : List ℕ). sets o 10 (all-bytes K l)) head ∙ record-stores K kind out 65535 l (writes-fit K l (length out) h .1) ∙ rw h refl,
+  )

@@ -36,7 +36,7 @@ returns-2 c = λ l e h.
     let s = c .before .before .before .before .before .before .before .before in
     let b = c .before .before .before .before .begin-record .ensures l e (λ one few. c .before .before .before .before .before .before .stage-checked .ensures _ _ _ l _ h) in
     let begins = subst (λ w. Begun (layout (s .args .kind)) l (now (s .args .out)) (wrote w) (c .before .before .before .before .begin-record .last .1 .1 .1 .0)) (c .enum-told .given .1) b in
-    (refl, begins .0, begins .2)
+    (refl, (begins .0, refl, begins .2))
 
 pub stage-ready-spec : {M : Type 1} → statement M
 stage-ready-spec =
