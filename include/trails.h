@@ -308,9 +308,9 @@ struct trails_head trails_check(const uint8_t *record, size_t lent);
  * Each call checks the whole record; trails_read_all checks once for all fixes. */
 struct trails_step trails_read(const uint8_t *record, size_t lent, size_t position);
 
-/* Reads all fixes of the record: the inverse of the three writers of a list. Makes checks 1 to
- * 9 and 20. Where none fails, value is the record's count, and fix k goes to t[k],
- * x[k] and y[k], in the record's unit, which trails_check tells, and to silence[k],
+/* Reads all fixes of the record: the inverse of the three writers of a list. Makes
+ * checks 1 to 9 and 20. Where none fails, value is the record's count, and fix k goes to
+ * t[k], x[k] and y[k], in the record's unit, which trails_check tells, and to silence[k],
  * which is 1 if a silence follows it and else 0. Each column, for itself, gets as many
  * as it holds, none if its number is 0, and its later elements are as before. */
 struct trails_answer trails_read_all(const uint8_t *record, size_t lent,

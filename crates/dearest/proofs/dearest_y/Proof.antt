@@ -1,6 +1,6 @@
 use mir.Facts.{toZ-ofZ}
 use Prim.Native.Nat.{_-_}
-use Rattle.record.specs.Laws.Scan.{BothSigns}
+use Rattle.distance.specs.Integers.Bounds.{BothSigns}
 use Rattle.dearest.specs.Laws.Fixes.{y-even, y-odd, y-fits}
 use borrow.Author.Needs.{needs}
 use Rattle.dearest.proofs.dearest_y.Statement.{statement}

@@ -9,6 +9,7 @@ use borrow.Author.Tests.{eq-eqb, ne-eqb}
 use lib.IntN.{ℤ, pos, negsuc, negℤ, _-ℤ_, _*ℤ_}
 use lib.Signed.{_≤ℤ_}
 use Rattle.distance.specs.Fix.{Fix, Bounded, After, none-after, later, Rising, no-fix, rising}
+use Rattle.distance.specs.Integers.Bounds.{BothSigns, both-signs}
 use Rattle.distance.specs.Integers.Differences.{diffs}
 use Rattle.distance.specs.Integers.Order.{ltZ-false}
 use Rattle.distance.specs.Laws.All.{All}
@@ -16,7 +17,7 @@ use Rattle.format.specs.Format.{each}
 use Rattle.format.specs.Laws.Each.{each-all}
 use Rattle.record.specs.Checks.{too-long, of-ends}
 use Rattle.record.specs.Laws.Accepted.{GoodFixes, good-places, good-times}
-use Rattle.record.specs.Laws.Scan.{Timed, BothSigns, both-signs, from-zero}
+use Rattle.record.specs.Laws.Scan.{Timed}
 use Rattle.record.specs.Laws.Silence.{NoSilence, heard-known, heard-last}
 use Rattle.thinning.specs.Laws.Spans.{last-at}
 use Rattle.dearest.specs.Dearest.{dearest-y, dearest-fix, dearest}
@@ -63,11 +64,11 @@ module _ (n i : ℕ) (h : i < n) (few : n ≤ 4096) where
   pub y-even : i % 2 ≡ 0 → pos (n - 1 - i) ≡ dearest-y n i
   y-even e = rw (eq-eqb (i % 2) 0 e) (sym (height n i (n - 1 - i) position))
 
-  pub y-odd : (i % 2 ≡ 0 → ⊥) → pos 0 -ℤ pos (n - 1 - i) ≡ dearest-y n i
-  y-odd e = rw (ne-eqb (i % 2) 0 e) (from-zero (n - 1 - i) ∙ sym (ap negℤ (height n i (n - 1 - i) position)))
-
   pub y-fits : BothSigns (n - 1 - i)
   y-fits = both-signs (omega arith)
+
+  pub y-odd : (i % 2 ≡ 0 → ⊥) → pos 0 -ℤ pos (n - 1 - i) ≡ dearest-y n i
+  y-odd e = rw (ne-eqb (i % 2) 0 e) (y-fits .opposite ∙ sym (ap negℤ (height n i (n - 1 - i) position)))
 
   pub bounded : Bounded 16000 (dearest-fix n i)
   unfolding dearest-fix

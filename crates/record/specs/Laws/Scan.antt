@@ -6,11 +6,10 @@ use mathlib.Core.Option.{some, none}
 use Prim.Native.Nat.{ℕ, suc, _+_, _-_, _<_, _≤_}
 use native.Mathlib.Omega.{arith}
 use lib.Dec.{leb}
-use lib.IntN.{ℤ, pos, negsuc, negℤ, _-ℤ_, +ℤ-idl}
+use lib.IntN.{ℤ, pos, negsuc, negℤ}
 use lib.Signed.{_≤ℤ_}
 use mir.Syntax.{w32}
-use mir.Val.{SFits, toZ}
-use mir.Facts.{toZ-pos}
+use mir.Val.{SFits}
 use lib.ListN.{length}
 use Rattle.distance.specs.Fix.{Fix, last-of}
 use Rattle.distance.specs.Distance.{seconds}
@@ -18,7 +17,6 @@ use Rattle.distance.specs.Silence.{silent}
 use Rattle.distance.specs.Laws.All.{All, all-none, all-more, all-append, last-more}
 use Rattle.distance.specs.Integers.Differences.{diffs}
 use Rattle.distance.specs.Integers.Order.{ltZ-true, ltZ-false}
-use Rattle.distance.specs.Integers.Bounds.{Bound, _⊝_, fits}
 use Rattle.record.specs.declared.Scan.{Scan}
 use Rattle.format.specs.Kinds.{Kind}
 use Rattle.format.specs.Format.{each}
@@ -34,18 +32,7 @@ pub none-timed : (l : List Fix) → length l ≡ 0 → All Timed l
 none-timed [] h = all-none
 none-timed (f ∷ l) h = absurd (omega arith)
 
--- a number that 32 bits hold with either sign
-pub record BothSigns (n : ℕ) : Type 0 where
-  pub plus : toZ w32 n ≡ pos n
-  pub minus : SFits w32 (pos 0 -ℤ pos n)
-
-pub both-signs : {n : ℕ} → n ≤ 2147483647 → BothSigns n
-both-signs {n} h =
-    let far : Bound (pos n) = record { top = 2147483647; holds = h } in
-    let none : Bound (pos 0) = record { top = 0; holds = omega arith } in
-    record { plus = toZ-pos w32 (omega arith); minus = fits w32 (none ⊝ far) tt }
-
--- no coordinate is outside a limit that they don't hold
+-- no coordinate is outside a limit that 32 bits don't hold with a sign
 pub none-outside : (z : ℤ) (limit : ℕ) → SFits w32 z → 2147483647 < limit → false ≡ outside limit z
 none-outside z limit f h = rw (ltZ-false {x = z} {y = negℤ (pos limit)} (low z f), ltZ-false {x = pos limit} {y = z} (high z f)) refl
   where
@@ -56,9 +43,6 @@ none-outside z limit f h = rw (ltZ-false {x = z} {y = negℤ (pos limit)} (low z
     high : (z : ℤ) → SFits w32 z → z ≤ℤ pos limit
     high (pos n) f = simp diffs (omega (arith, f .sfits))
     high (negsuc n) f = simp diffs (omega arith)
-
-pub from-zero : (n : ℕ) → pos 0 -ℤ pos n ≡ negℤ (pos n)
-from-zero n = +ℤ-idl (negℤ (pos n))
 
 -- the pass has seen the fixes a ∷ l
 pub record Scanned (limit : ℕ) (a : Fix) (l : List Fix) (s : Scan) : Type 0 where

@@ -42,7 +42,9 @@ loop-again c =
     (c .before .before .mark-stretch .kept .1 .0 ∙ x .0, one-marked deviation allowance silent _ _ _ (x .1) (c .before .before .before .before .stretch-end .ensures) (c .before .before .mark-stretch .ensures))
 
 add-count : tie.Need-add-count Inv-loop μ-loop
-add-count c = omega (arith, marked-small deviation allowance silent _ _ _ (loop-again c .1) (c .before .before .before .before .before .before .before .before .before .pre .1))
+add-count c =
+    let asked = c .before .before .before .before .before .before .before .before .before .pre in
+    omega (arith, marked-small deviation allowance silent _ _ _ (loop-again c .1) (asked .0) (asked .1))
 
 add-lo : tie.Need-add-lo Inv-loop μ-loop
 add-lo c = let h = c .before .before .before .before .stretch-end .ensures .high in omega arith

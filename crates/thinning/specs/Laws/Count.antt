@@ -2,6 +2,7 @@
 use mathlib.Core.Path.{_≡_, refl, sym, _∙_, ap}
 use mathlib.Core.List.{List, [], _∷_}
 use Prim.Native.Nat.{ℕ, zero, suc, _+_, _*_, _-_, _/_, _≤_}
+use native.Mathlib.Nat.{mul-le-mul}
 use native.Mathlib.Omega.{arith}
 use lib.ListN.{length}
 use lib.IntN.{ℤ, pos, _-ℤ_, _*ℤ_}
@@ -37,12 +38,17 @@ greatest-exactly (suc (suc d)) h =
     let two : pos (suc (suc d)) -ℤ pos 2 ≡ pos d = simp diffs (omega arith) in
     ap pos (greatest-twice d) ∙ sym (ap (λ (z : ℤ). z *ℤ (pos (suc (suc d)) -ℤ pos 2)) one ∙ ap (λ (z : ℤ). pos (suc d) *ℤ z) two)
 
+-- more fixes, no less
+pub greatest-rises : (m n : ℕ) → m ≤ n → greatest-count m ≤ greatest-count n
+greatest-rises m n h = let p : (m - 1) * (m - 2) ≤ (n - 1) * (n - 2) = mul-le-mul (omega arith) (omega arith) in omega (arith, p)
+
+-- (n − 1)(n − 2) is n·n − 3·n + 2
+pub at-most-greatest : (n c : ℕ) → 2 * c + 3 * suc n ≤ suc n * suc n + 2 → c ≤ greatest-count (suc n)
+at-most-greatest zero c h = omega arith
+at-most-greatest (suc n) c h = rw (of-inner n) (omega arith)
+
 -- "It is at most (n − 1)(n − 2)/2."
 pub count-at-most : (e : ℕ) (l : List Fix) → (thinning e l) .count ≤ greatest-count (length l)
 unfolding thinning thin-each stretches
 count-at-most e [] = omega arith
-count-at-most e (i ∷ l) = from (length l) ((thinning e (i ∷ l)) .count) (stretches-count deviation allowance silent e (i ∷ l))
-  where
-    from : (n c : ℕ) → 2 * c + 3 * suc n ≤ suc n * suc n + 2 → c ≤ greatest-count (suc n)
-    from zero c h = omega arith
-    from (suc n) c h = rw (of-inner n) (omega arith)
+count-at-most e (i ∷ l) = at-most-greatest (length l) ((thinning e (i ∷ l)) .count) (stretches-count deviation allowance silent e (i ∷ l))

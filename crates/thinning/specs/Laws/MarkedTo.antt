@@ -3,19 +3,19 @@ use mathlib.Core.Path.{_≡_, refl, sym, _∙_, ap}
 use mathlib.Core.Bool.{Bool}
 use mathlib.Core.Logic.{⊎-elim}
 use mathlib.Core.List.{List, [], _∷_, _++_, append-nil}
-use Prim.Native.Nat.{ℕ, zero, suc, _+_, _*_, _-_, _<_, _≤_}
+use Prim.Native.Nat.{ℕ, suc, _+_, _*_, _-_, _<_, _≤_}
 use native.Mathlib.Omega.{arith}
 use Rattle.distance.specs.Fix.{Fix}
 use Rattle.distance.specs.Distance.{deviation, allowance}
 use Rattle.distance.specs.Silence.{silent}
 use Rattle.format.specs.Format.{each}
 use Rattle.format.specs.Laws.Each.{length-each, each-more, each-all}
-use Rattle.thinning.specs.Thinning.{Thinned, together, stretches, thin, thin-each, thin-stretches, thinning}
+use Rattle.thinning.specs.Thinning.{Thinned, together, stretches, thin, thin-each, thin-stretches, thinning, greatest-count}
 use Rattle.thinning.specs.Marks.{kept-by, Says, ClearFrom, Stretch, from-to, StretchMarked, MarkedTo}
 use Rattle.thinning.specs.Laws.Stretches.{EndsAt, by-silence, by-last, NoneSilent, first-stretch}
 use Rattle.thinning.specs.Laws.ByStretch.{together-assoc, stretches-count}
 use Rattle.thinning.specs.Laws.KeptBy.{each-append, kept-by-append, kept-by-same}
-use Rattle.thinning.specs.Laws.Marks.{small-count}
+use Rattle.thinning.specs.Laws.Count.{greatest-rises, at-most-greatest}
 
 module _ {A : Type 0} (far : (i m j : A) → ℕ) (bound : (e : ℕ) (i j : A) → ℕ) (silent : A → Bool) (f : ℕ → A) (e n : ℕ) where
   -- ---- before the first
@@ -86,16 +86,14 @@ module _ {A : Type 0} (far : (i m j : A) → ℕ) (bound : (e : ℕ) (i j : A) �
       x .whole ∙ rw z (rw (append-nil (kept-by marks 0 (each f 0 n)), s) refl)
 
   -- ---- the count stays small
-  pub marked-small : {lo c : ℕ} {marks : List Bool} → MarkedTo far bound f e silent n lo marks c → n ≤ 4096 → c ≤ 8382465
-  marked-small {lo} {c} x h =
+  pub marked-small : {lo c : ℕ} {marks : List Bool} → MarkedTo far bound f e silent n lo marks c → 1 ≤ n → n ≤ 4096 → c ≤ greatest-count 4096
+  marked-small {lo} {c} x some few =
       let rest = (thin-stretches far bound silent e (each f lo (n - lo))) .count in
       let all = (thin-stretches far bound silent e (each f 0 n)) .count in
       let sum : all ≡ c + rest = ap (λ (t : Thinned A). t .count) (x .whole) in
-      small n all (omega arith) h (rw (length-each f 0 n) at (stretches-count far bound silent e (each f 0 n)))
-    where
-      small : (n all : ℕ) → c ≤ all → n ≤ 4096 → 2 * all + 3 * n ≤ n * n + 2 → c ≤ 8382465
-      small zero all l h g = omega arith
-      small (suc n) all l h g = small-count n (omega arith) (omega arith)
+      let is : n ≡ suc (n - 1) = omega arith in
+      let count : 2 * all + 3 * suc (n - 1) ≤ suc (n - 1) * suc (n - 1) + 2 = rw (← is) (rw (length-each f 0 n) at (stretches-count far bound silent e (each f 0 n))) in
+      omega (arith, at-most-greatest (n - 1) all count, greatest-rises (suc (n - 1)) 4096 (omega arith))
 
 -- ---- at fixes: the marks and the count are the definition's
 pub marked-says : (f : ℕ → Fix) (e n : ℕ) {marks : List Bool} {c : ℕ} → MarkedTo deviation allowance f e silent n n marks c → Says (thinning e (each f 0 n)) marks (each f 0 n) c

@@ -3,19 +3,20 @@ use mathlib.Core.Path.{_≡_, refl, sym, _∙_}
 use mathlib.Core.Bool.{Bool, true, false}
 use mathlib.Core.List.{List}
 use Prim.Native.Nat.{ℕ, zero, suc, _+_, _*_, _-_, _<_, _≤_}
-use native.Mathlib.Nat.{le-refl, mul-le-mul, mul-le-mul-left}
+use native.Mathlib.Nat.{le-refl, le-trans, mul-le-mul-left}
 use native.Mathlib.Omega.{arith}
 use lib.ListN.{length, getD, set, length-set}
 use borrow.Author.Tests.{leb-true, leb-false}
 use lib.Seq.{getD-set-same, getD-set-other}
 use Rattle.format.specs.Format.{each}
 use Rattle.format.specs.Laws.Each.{length-each}
-use Rattle.thinning.specs.Thinning.{thin}
+use Rattle.thinning.specs.Thinning.{thin, greatest-count}
 use Rattle.thinning.specs.Marks.{kept-by, ClearFrom, Ready, StretchMarked, Judged, Marks, marks-none, marks-ends, marks-split}
 use Rattle.distance.specs.Laws.All.{all-none}
 use Rattle.thinning.specs.Laws.Furthest.{Tops}
 use Rattle.thinning.specs.Laws.Keeps.{Keeps, ends-only, pieces-of, keeps-span}
 use Rattle.thinning.specs.Laws.Kept.{thin-ends}
+use Rattle.thinning.specs.Laws.Count.{greatest-rises, at-most-greatest}
 use Rattle.thinning.specs.Laws.KeptBy.{inner, inner-split, inner-all, kept-by-none, kept-by-same, kept-inner, each-ends, kept-ends, ready}
 
 -- ---- the two ways out of a span that has inner fixes, as it was judged
@@ -40,10 +41,9 @@ split-count : (a b c d : ℕ) → 2 * c + suc a ≤ suc a * suc a → 2 * d + su
     → 2 * (suc a + suc b - 1 + c + d) + (suc a + suc b) ≤ (suc a + suc b) * (suc a + suc b)
 split-count a b c d h g = let e : suc a + suc b - 1 ≡ suc a + b = omega arith in rw e (omega arith)
 
--- of at most 4,096 fixes: (n − 1)(n − 2)/2
-pub small-count : {c : ℕ} (n : ℕ) → n ≤ 4095 → 2 * c + n ≤ n * n → c ≤ 8382465
-small-count zero h g = omega arith
-small-count (suc n) h g = omega (arith, mul-le-mul {n₁ = n} {m₁ = suc n} {n₂ = 4094} {m₂ = 4095} (omega arith) h)
+-- so no more than the greatest count of 4,096 fixes, which 32 bits hold
+small-count : {c : ℕ} (n : ℕ) → n ≤ 4095 → 2 * c + n ≤ n * n → c ≤ greatest-count 4096
+small-count {c} n h g = le-trans (at-most-greatest n c (omega arith)) (greatest-rises (suc n) 4096 (omega arith))
 
 module _ {A : Type 0} (far : (i m j : A) → ℕ) (bound : (e : ℕ) (i j : A) → ℕ) (f : ℕ → A) (e : ℕ) where
   pub marks-length : {lo hi c : ℕ} {k k2 : List Bool} → Marks far bound f e lo hi k k2 c → length k2 ≡ length k
@@ -63,7 +63,7 @@ module _ {A : Type 0} (far : (i m j : A) → ℕ) (bound : (e : ℕ) (i j : A) �
       let ab : hi - lo ≡ suc (m - suc lo) + suc (hi - suc m) = omega arith in
       rw ab (split-count (m - suc lo) (hi - suc m) c d (rw a at (marks-count one)) (rw b at (marks-count two)))
 
-  pub marks-small : {lo hi c : ℕ} {k k2 : List Bool} → Marks far bound f e lo hi k k2 c → hi ≤ lo + 4095 → c ≤ 8382465
+  pub marks-small : {lo hi c : ℕ} {k k2 : List Bool} → Marks far bound f e lo hi k k2 c → hi ≤ lo + 4095 → c ≤ greatest-count 4096
   marks-small {lo} {hi} m h = small-count (hi - lo) (omega arith) (marks-count m)
 
   -- outside the span marks stay as they were

@@ -2,7 +2,8 @@ use mathlib.Core.Path.{refl}
 use mir.Facts.{toZ-ofZ}
 use mir.Syntax.{w32}
 use mir.Val.{SFits}
-use Rattle.record.specs.Laws.Scan.{BothSigns, both-signs, none-outside, from-zero}
+use Rattle.distance.specs.Integers.Bounds.{BothSigns, both-signs}
+use Rattle.record.specs.Laws.Scan.{none-outside}
 use borrow.Author.Needs.{needs}
 use Rattle.record.proofs.checking.outside.Statement.{statement}
 use Rattle.record.proofs.checking.outside.Tie as tie
@@ -27,7 +28,7 @@ returns-2 c =
     let s = c .before .before .before .before .before in
     let z = word s in
     let k = ranges (c .before .before .before .before) in
-    rw (k .plus) (simp (toZ-ofZ, z, k .minus) (rw (from-zero (s .args .limit)) refl))
+    rw (k .plus) (simp (toZ-ofZ, z, k .minus) (rw (k .opposite) refl))
 
 pub outside-spec : {M : Type 1} → statement M
 outside-spec = tie.close (tie.spec returns cast-far sub-result returns-2)
