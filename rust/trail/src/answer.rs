@@ -4,8 +4,8 @@ use trails::Unit;
 
 use crate::failure::Failure;
 use crate::json::Json;
-use crate::output;
 use crate::trail::Trail;
+use crate::{clock, output};
 
 /// What a yes tells: a time in seconds after the first fix, and maybe the leg of which it is.
 pub struct Yes {
@@ -52,11 +52,10 @@ impl Answer<'_> {
             return "no".into();
         };
         let leg = leg.map_or(String::new(), |leg| format!("on leg {leg}, closest "));
-        let after = 1000 * u128::from(numerator) / u128::from(denominator.max(1));
-        let moment = 1000 * u128::from(self.trail.first()) + after;
-        let (second, thousandths) = (moment / 1000, moment % 1000);
+        let moment = clock::cut(self.trail.first(), numerator, denominator);
+        let at = self.trail.clock.show_moment(moment);
         let fraction = format!("{numerator}/{denominator} seconds after the first fix");
-        format!("yes, {leg}{fraction}, at {second}.{thousandths:03}")
+        format!("yes, {leg}{fraction}, at {at}")
     }
 
     fn fields(self) -> Json {

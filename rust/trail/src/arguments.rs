@@ -8,6 +8,7 @@ use std::str::FromStr;
 
 use trails::{Area, Point, Window};
 
+use crate::clock::Clock;
 use crate::failure::{Failure, Status};
 use crate::numbers::whole;
 use crate::options::{is_option, parted, Choice, OPTIONS};
@@ -146,26 +147,47 @@ impl Arguments {
         Ok(to)
     }
 
-    /// The numbers that an option has, if it is given.
-    fn numbers<N: FromStr>(&self, name: &str) -> Result<Option<Vec<N>>, Failure> {
+    /// The values that an option has, if it is given, each read so.
+    fn values<V>(
+        &self,
+        name: &str,
+        read: impl Fn(&str) -> Result<V, String>,
+    ) -> Result<Option<Vec<V>>, Failure> {
         let Some((choice, values)) = self.given(name) else {
             return Ok(None);
         };
-        let Some(range) = choice.range else {
-            return Ok(None);
+        let value = |(value, named): (&OsString, &&str)| {
+            let value = read(&value.to_string_lossy());
+            value.map_err(|what| self.wrong(&format!("{name}, {named}: {what}")))
         };
-        let number = |(value, named): (&OsString, &&str)| {
-            let number = whole(&value.to_string_lossy(), range);
-            number.map_err(|what| self.wrong(&format!("{name}, {named}: {what}")))
-        };
-        let numbers: Result<Vec<N>, Failure> =
-            values.iter().zip(choice.values).map(number).collect();
-        numbers.map(Some)
+        let values: Result<Vec<V>, Failure> = values.iter().zip(choice.values).map(value).collect();
+        values.map(Some)
+    }
+
+    /// The numbers that an option has, if it is given.
+    fn numbers<N: FromStr>(&self, name: &str) -> Result<Option<Vec<N>>, Failure> {
+        let range = self.given(name).and_then(|(choice, _)| choice.range);
+        range.map_or(Ok(None), |range| {
+            self.values(name, |word| whole(word, range))
+        })
     }
 
     pub fn number<N: FromStr>(&self, name: &str) -> Result<Option<N>, Failure> {
         let numbers = self.numbers(name)?;
         Ok(numbers.and_then(|numbers| numbers.into_iter().next()))
+    }
+
+    /// The clock that `--epoch` sets, or none.
+    pub fn clock(&self) -> Result<Clock, Failure> {
+        let clocks = self.values("--epoch", Clock::with_epoch)?;
+        let clock = clocks.and_then(|clocks| clocks.into_iter().next());
+        Ok(clock.unwrap_or_default())
+    }
+
+    /// How long something takes, if that is given: also as hours, minutes and seconds.
+    pub fn duration(&self, name: &str) -> Result<Option<u32>, Failure> {
+        let seconds = self.values(name, |word| Clock::default().second(word))?;
+        Ok(seconds.and_then(|seconds| seconds.into_iter().next()))
     }
 
     pub fn area(&self) -> Result<Option<Area>, Failure> {
@@ -190,8 +212,9 @@ impl Arguments {
     }
 
     pub fn window(&self) -> Result<Option<Window>, Failure> {
-        let numbers: Option<Vec<u32>> = self.numbers("--window")?;
-        let Some(&[start, end]) = numbers.as_deref() else {
+        let clock = self.clock()?;
+        let seconds = self.values("--window", |word| clock.second(word))?;
+        let Some(&[start, end]) = seconds.as_deref() else {
             return Ok(None);
         };
         Ok(Some(Window { start, end }))

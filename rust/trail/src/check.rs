@@ -3,47 +3,43 @@
 use std::ffi::OsStr;
 
 use crate::arguments::{Arguments, Command};
+use crate::clock::Clock;
 use crate::failure::{Failure, Status};
 use crate::json::Json;
 use crate::trail::Trail;
-use crate::{output, words};
+use crate::{many, output, words};
 
 pub const COMMAND: Command = Command {
     name: "check",
     help: HELP,
-    options: &["--json"],
+    options: &["--epoch", "--json"],
     run,
 };
 
 const HELP: &str = "\
-usage: trail check [--json] FILE...
+usage: trail check [--epoch TIME] [--json] FILE...
 
 Says of each FILE how many fixes its trail has, and if it can have silences how
 many of those, from which second to which, in which unit its places are, and
 its mark, or why it is refused. Goes on past a refused file.
 
-  --json   print one line for each file:
-           {\"file\", \"unit\", \"count\", \"silences\", \"first\", \"last\",
-           \"mark\"}, with null for the silences if the trail can have none,
-           {\"file\", \"refused\", \"sentence\"} or {\"file\", \"failed\"}
+  --epoch TIME  tell seconds on the clock; see 'trail help'
+  --json        print one line for each file:
+                {\"file\", \"unit\", \"count\", \"silences\", \"first\", \"last\",
+                \"mark\"}, with null for the silences if the trail can have none,
+                {\"file\", \"refused\", \"sentence\"} or {\"file\", \"failed\"}
 ";
 
 fn run(arguments: &Arguments) -> Result<Status, Failure> {
     let json = arguments.has("--json");
-    let mut worst = Status::Done;
-    for name in arguments.several("one file or more")? {
-        match check(name, json) {
-            Ok(()) => {}
-            // without a reader the other answers reach nobody either
-            Err(Failure::Unheard(what)) => return Err(Failure::Unheard(what)),
-            Err(failure) => worst = worst.max(output::report(&failure, json)),
-        }
-    }
-    Ok(worst)
+    let clock = arguments.clock()?;
+    let names = arguments.several("one file or more")?;
+    let ends = many::each(names, json, |name| check(name, clock, json))?;
+    Ok(ends.worst)
 }
 
-fn check(name: &OsStr, json: bool) -> Result<(), Failure> {
-    let trail = Trail::read(name)?;
+fn check(name: &OsStr, clock: Clock, json: bool) -> Result<(), Failure> {
+    let trail = Trail::read(name, clock)?;
     let (count, first, last) = (trail.fixes.len(), trail.first(), trail.last());
     let silences = trail.silences().count();
     if !json {
@@ -52,7 +48,7 @@ fn check(name: &OsStr, json: bool) -> Result<(), Failure> {
             true => format!(", silences {silences}"),
             false => String::new(),
         };
-        let times = format!("seconds {first} to {last}");
+        let times = clock.span(first, last);
         let places = format!("places in {}", trail.unit().symbol());
         return output::print(&format!(
             "{file}: fixes {count}{silences}, {times}, {places}, mark {mark}\n"

@@ -46,7 +46,7 @@ fn run(arguments: &Arguments) -> Result<Status, Failure> {
     let area = area.ok_or_else(|| arguments.wrong("--box X0 X1 Y0 Y1 is missing"))?;
     let window = arguments.window()?;
     let window = window.ok_or_else(|| arguments.wrong("--window S E is missing"))?;
-    let trail = Trail::read(name)?;
+    let trail = Trail::read(name, arguments.clock()?)?;
     let crossing = trails::crosses(&trail.bytes, area, window);
     let crossing = crossing.map_err(|refusal| trail.refused(refusal))?;
     let silences = trail.silences_in(window);

@@ -5,6 +5,7 @@ use std::fmt;
 
 use trails::{Kind, Refusal};
 
+use crate::clock::Clock;
 use crate::json::Json;
 use crate::words::shown;
 
@@ -50,9 +51,9 @@ pub enum Fact {
     /// So many fixes.
     Count(usize),
     /// The trail's first second and its last.
-    Seconds(u32, u32),
+    Seconds(Clock, u32, u32),
     /// The seconds at which a silence begins and ends.
-    Silence(u32, u32),
+    Silence(Clock, u32, u32),
     /// So many rows of a table.
     Rows(usize),
 }
@@ -67,11 +68,11 @@ impl Fact {
     fn fields(self) -> Vec<(&'static str, Json)> {
         match self {
             Fact::Count(count) => vec![("count", Json::Whole(count as i128))],
-            Fact::Seconds(first, last) => vec![
+            Fact::Seconds(_, first, last) => vec![
                 ("first", Json::Whole(first.into())),
                 ("last", Json::Whole(last.into())),
             ],
-            Fact::Silence(from, to) => vec![
+            Fact::Silence(_, from, to) => vec![
                 ("from", Json::Whole(from.into())),
                 ("to", Json::Whole(to.into())),
             ],
@@ -84,8 +85,13 @@ impl fmt::Display for Fact {
     fn fmt(&self, to: &mut fmt::Formatter) -> fmt::Result {
         match self {
             Fact::Count(count) => write!(to, "The count is {count}."),
-            Fact::Seconds(first, last) => write!(to, "The trail has seconds {first} to {last}."),
-            Fact::Silence(from, end) => write!(to, "The silence is from second {from} to {end}."),
+            Fact::Seconds(clock, first, last) => {
+                write!(to, "The trail has {}.", clock.span(*first, *last))
+            }
+            Fact::Silence(clock, from, end) => {
+                let (from, end) = (clock.named(*from), clock.show(*end));
+                write!(to, "The silence is from {from} to {end}.")
+            }
             Fact::Rows(rows) => write!(to, "The rows are {rows}."),
         }
     }

@@ -11,30 +11,31 @@ use crate::trail::{refused, Trail};
 pub const COMMAND: Command = Command {
     name: "list",
     help: HELP,
-    options: &["--json"],
+    options: &["--epoch", "--json"],
     run,
 };
 
 const HELP: &str = "\
-usage: trail list [--json] FILE
+usage: trail list [--epoch TIME] [--json] FILE
 
 Prints the trail that FILE begins with: its count and mark ('never' for one
 that was never thinned), then time, x and y of each fix, with 'silence' where
 one follows, then 'end'. The unit of its lengths isn't in it; 'trail check'
 says that.
 
-  --json   print one line:
-           {\"file\", \"unit\", \"count\", \"mark\", \"fixes\": [[t, x, y], ...]};
-           if the trail can have silences, a fix is [t, x, y, 1] where one
-           follows, and else [t, x, y, 0]
+  --epoch TIME  print times on the clock; see 'trail help'
+  --json        print one line:
+                {\"file\", \"unit\", \"count\", \"mark\", \"fixes\": [[t, x, y], ...]};
+                if the trail can have silences, a fix is [t, x, y, 1] where one
+                follows, and else [t, x, y, 0]
 ";
 
 fn run(arguments: &Arguments) -> Result<Status, Failure> {
     let [name]: &[OsString; 1] = arguments.exactly("one file")?;
-    let trail = Trail::read(name)?;
+    let trail = Trail::read(name, arguments.clock()?)?;
     if !arguments.has("--json") {
         let text = trails::list(&trail.bytes).map_err(refused(name, &trail.bytes))?;
-        output::print(&text)?;
+        output::print(&trail.clock.listing(&text))?;
         return Ok(Status::Done);
     }
     output::print_json(Json::Object(vec![

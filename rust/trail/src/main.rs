@@ -10,6 +10,7 @@ mod answer;
 mod arguments;
 mod beside;
 mod check;
+mod clock;
 mod cross;
 mod dearest;
 mod failure;
@@ -18,6 +19,7 @@ mod json;
 mod lines;
 mod list;
 mod made;
+mod many;
 mod meaning;
 mod near;
 mod numbers;
@@ -75,6 +77,13 @@ trail has, is asked with and is answered with in its own unit: centimetres, or
 millimetres if it was written so. Between a fix that says 'silence' and the
 next one nobody knows where the cart was. Of a file that is read, what follows
 its trail is ignored.
+
+A second may be given as a time of the clock too, hh:mm:ss, also with .mmm where
+a moment is asked. '--epoch TIME' says when second 0 was, as hh:mm:ss or as
+yyyy-mm-ddThh:mm:ss, and then seconds are told so too; without it second 0 is
+midnight, and seconds are told as numbers. A time without a date is the first
+such time from second 0 on, or with +1d after it that of the next day. With
+--json seconds are always numbers.
 
 With --json the answer is one line of JSON, and so is a refusal, {\"file\",
 \"refused\", \"sentence\"}, or a failure, {\"file\", \"failed\"}. Refusal 3 has

@@ -48,7 +48,7 @@ fn run(arguments: &Arguments) -> Result<Status, Failure> {
     let point = point.ok_or_else(|| arguments.wrong("--point X Y is missing"))?;
     let radius = arguments.number("--radius")?;
     let radius: u32 = radius.ok_or_else(|| arguments.wrong("--radius R is missing"))?;
-    let trail = Trail::read(name)?;
+    let trail = Trail::read(name, arguments.clock()?)?;
     let approach = trails::near(&trail.bytes, point, radius);
     let approach = approach.map_err(|refusal| trail.refused(refusal))?;
     let silences = trail.silences().count();

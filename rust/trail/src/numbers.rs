@@ -5,7 +5,7 @@ use std::fmt;
 use std::os::unix::ffi::OsStrExt;
 use std::str::FromStr;
 
-use trails::{in_threes, of_every_kind, Moment, Unit, MOST_FIXES};
+use trails::{in_threes, of_every_kind, Unit, MOST_FIXES};
 
 use crate::words;
 
@@ -71,44 +71,9 @@ pub fn float(word: &str) -> Result<f32, String> {
     word.parse().map_err(wrong)
 }
 
-/// The moment that `SECOND` or `SECOND.mmm` has.
-pub fn moment(word: &str) -> Result<Moment, String> {
-    let (second, part) = word.split_once('.').unwrap_or((word, "0"));
-    let digits = part.bytes().all(|byte| byte.is_ascii_digit());
-    if !digits || part.is_empty() || part.len() > 3 {
-        return Err("after the point stand one to three digits".into());
-    }
-    Ok(Moment {
-        second: whole(second, Range::Seconds)?,
-        thousandths: whole(&format!("{part:0<3}"), Range::Thousandths)?,
-    })
-}
-
 #[cfg(test)]
 mod tests {
     use super::*;
-
-    #[test]
-    fn moments_have_up_to_three_digits_after_the_point() {
-        let both = |word| moment(word).map(|moment| (moment.second, moment.thousandths));
-        assert_eq!(both("12"), Ok((12, 0)));
-        assert_eq!(both("12.5"), Ok((12, 500)));
-        assert_eq!(both("12.05"), Ok((12, 50)));
-        assert_eq!(both("4294967295.999"), Ok((u32::MAX, 999)));
-        for wrong in [
-            "",
-            ".",
-            "12.",
-            "12.0000",
-            "12.+5",
-            "12.5.5",
-            "-1",
-            "12,5",
-            "4294967296",
-        ] {
-            assert!(both(wrong).is_err(), "{wrong}");
-        }
-    }
 
     #[test]
     fn wrong_numbers_are_shown_harmlessly() {

@@ -27,8 +27,9 @@ const fn choice(
 
 const EDGES: &[&str] = &["X0", "X1", "Y0", "Y1"];
 
-pub static OPTIONS: [Choice; 14] = [
+pub static OPTIONS: [Choice; 15] = [
     choice("--json", &[], None),
+    choice("--epoch", &["TIME"], None),
     choice("--force", &[], None),
     choice("--millimetres", &[], None),
     choice("--anchors", &[], None),

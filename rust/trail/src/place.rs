@@ -7,7 +7,6 @@ use trails::Place;
 use crate::arguments::{Arguments, Command};
 use crate::failure::{Failure, Status};
 use crate::json::Json;
-use crate::numbers::moment;
 use crate::trail::Trail;
 use crate::{meaning, output};
 
@@ -37,8 +36,11 @@ place is told.
 
 fn run(arguments: &Arguments) -> Result<Status, Failure> {
     let [name, word]: &[OsString; 2] = arguments.exactly("a file and a second")?;
-    let asked = moment(&word.to_string_lossy()).map_err(|what| arguments.wrong(&what))?;
-    let trail = Trail::read(name)?;
+    let asked = arguments
+        .clock()?
+        .moment(&word.to_string_lossy())
+        .map_err(|what| arguments.wrong(&what))?;
+    let trail = Trail::read(name, arguments.clock()?)?;
     let found = trails::place(&trail.bytes, asked);
     let found = found.map_err(trail.refused_at(asked))?;
     match arguments.has("--json") {

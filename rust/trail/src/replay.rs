@@ -15,12 +15,12 @@ use crate::{files, lines, output, table, words};
 pub const COMMAND: Command = Command {
     name: "replay",
     help: HELP,
-    options: &["--table", "--json"],
+    options: &["--table", "--epoch", "--json"],
     run,
 };
 
 const HELP: &str = "\
-usage: trail replay [--table FILE] [--json] FILE CALLS
+usage: trail replay [--table FILE] [--epoch TIME] [--json] FILE CALLS
 
 Ages a copy of FILE's trail by each line of CALLS, which is
 
@@ -33,6 +33,7 @@ fixes are those that one thinning at E keeps. FILE stays as it is. Empty lines
 and comments from '#' on are skipped.
 
   --table FILE   take days by this table, as 'trail age' does
+  --epoch TIME   print times on the clock; see 'trail help'
   --json         print one line:
                  {\"file\", \"unit\", \"answers\", \"E\", \"mark\", \"fixes\"}
 ";
@@ -76,15 +77,16 @@ fn run(arguments: &Arguments) -> Result<Status, Failure> {
     let Trail {
         bytes: mut record,
         kind,
+        clock,
         ..
-    } = Trail::read(name)?;
+    } = Trail::read(name, arguments.clock()?)?;
     let text = files::read_text(calls)?;
     let calls = lines::entries(calls, &text, |fields| aging(kind.unit(), table, fields))?;
     let calls = calls.into_iter().map(|(_, aging)| aging);
     let done: Vec<Done> = calls.map(|aging| make(aging, &mut record)).collect();
     let answer = match arguments.has("--json") {
         true => answer(name, &done, &record).map(|json| format!("{json}\n")),
-        false => text_of(&done, kind, &record),
+        false => text_of(&done, kind, &record).map(|text| clock.listing(&text)),
     };
     output::print(&answer.map_err(refused(name, &record))?)?;
     Ok(Status::Done)

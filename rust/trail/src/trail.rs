@@ -4,6 +4,7 @@ use std::ffi::{OsStr, OsString};
 
 use trails::{AnyFix, Head, Kind, Moment, Refusal, Unit, Window};
 
+use crate::clock::Clock;
 use crate::failure::{Fact, Failure, Refused, Spot};
 use crate::files;
 
@@ -18,6 +19,8 @@ pub struct Trail {
     /// the greatest tolerance applied so far, none for a trail that was never thinned
     pub mark: Option<u16>,
     pub fixes: Vec<AnyFix>,
+    /// what its seconds are told on
+    pub clock: Clock,
 }
 
 /// The stretches between silences: of a trail without any, all of it.
@@ -26,7 +29,7 @@ pub fn stretches(fixes: &[AnyFix]) -> impl Iterator<Item = &[AnyFix]> {
 }
 
 impl Trail {
-    pub fn read(name: &OsStr) -> Result<Trail, Failure> {
+    pub fn read(name: &OsStr, clock: Clock) -> Result<Trail, Failure> {
         let (bytes, _) = files::begin(name)?;
         let head = trails::check(&bytes).map_err(refused(name, &bytes))?;
         let fixes = trails::fixes(&bytes).map_err(refused(name, &bytes))?;
@@ -37,6 +40,7 @@ impl Trail {
             kind,
             mark,
             fixes: fixes.any(),
+            clock,
         })
     }
 
@@ -78,7 +82,7 @@ impl Trail {
     /// A question that is turned away, with the trail's times if it is about them.
     pub fn refused(&self, refusal: Refusal) -> Failure {
         let about_times = matches!(refusal, Refusal::BadMoment | Refusal::BadWindow);
-        let seconds = about_times.then_some(Fact::Seconds(self.first(), self.last()));
+        let seconds = about_times.then_some(Fact::Seconds(self.clock, self.first(), self.last()));
         self.refused_with(refusal, seconds)
     }
 
@@ -87,7 +91,10 @@ impl Trail {
         move |refusal| match refusal {
             Refusal::InSilence => {
                 let silence = self.silence_at(moment);
-                self.refused_with(refusal, silence.map(|(from, to)| Fact::Silence(from, to)))
+                self.refused_with(
+                    refusal,
+                    silence.map(|(from, to)| Fact::Silence(self.clock, from, to)),
+                )
             }
             other => self.refused(other),
         }

@@ -249,7 +249,7 @@ impl Asked<'_> {
             to,
             fine: arguments.has("--millimetres"),
             anchors: arguments.has("--anchors"),
-            after: arguments.number("--silence-after")?,
+            after: arguments.duration("--silence-after")?,
             json: arguments.has("--json"),
         };
         if asked.fine && asked.after.is_some() {

@@ -28,6 +28,7 @@ pub const COMMAND: Command = Command {
         "--point",
         "--radius",
         "--tolerance",
+        "--epoch",
         "-o",
         "--force",
     ],
@@ -141,8 +142,9 @@ fn run(arguments: &Arguments) -> Result<Status, Failure> {
         .collect();
     arguments.can_read(drawn.iter().copied())?;
     let to = output_of(arguments, &drawn)?;
-    let trail = Trail::read(name)?;
-    let original = other.map(Trail::read).transpose()?;
+    let clock = arguments.clock()?;
+    let trail = Trail::read(name, clock)?;
+    let original = other.map(|name| Trail::read(name, clock)).transpose()?;
     let differs = |original: &Trail| original.unit() != trail.unit();
     if original.as_ref().is_some_and(differs) {
         return Err(arguments.wrong("the trail and the original are in different units"));
