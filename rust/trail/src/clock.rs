@@ -296,7 +296,7 @@ mod tests {
         assert_eq!(dated.second("00:00:01"), Ok(2));
         assert_eq!(
             clock("1970-01-01T00:00:00").show(1_793_000_000),
-            "2026-10-26T08:53:20"
+            "2026-10-26T07:33:20"
         );
         // without an epoch second 0 is midnight, and seconds are told as numbers
         assert_eq!(Clock::default().second("00:01:05"), Ok(65));
