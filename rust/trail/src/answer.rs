@@ -1,79 +1,109 @@
-//! How a question of yes or no is answered, for people and for programs.
+//! How a question is answered, of one trail or of many, for people and for programs.
 
-use trails::Unit;
+use std::ffi::OsString;
 
-use crate::failure::Failure;
+use crate::arguments::Arguments;
+use crate::failure::{Failure, Status};
 use crate::json::Json;
+use crate::many::{self, Counted};
 use crate::trail::Trail;
-use crate::{clock, output};
+use crate::{output, words};
 
-/// What a yes tells: a time in seconds after the first fix, and maybe the leg of which it is.
-pub struct Yes {
-    pub leg: Option<u32>,
-    pub numerator: u64,
-    pub denominator: u64,
+/// What sort of answer a trail gave, for the summary of many.
+#[derive(Clone, Copy, PartialEq, Eq)]
+pub enum Sort {
+    Yes,
+    No,
+    /// A place was told.
+    Told,
+    /// It wasn't asked, since it has none of the times that are asked about.
+    Outside,
 }
 
-pub struct Answer<'a> {
-    pub trail: &'a Trail,
-    /// what programs read for yes or no
-    pub name: &'static str,
-    /// what it was asked with, in the trail's unit
-    pub asked: &'static str,
-    pub yes: Option<Yes>,
-    /// of how many silences nothing is known
-    pub silences: usize,
-    /// what it means of the original
-    pub means: String,
+impl Sort {
+    fn name(self) -> &'static str {
+        match self {
+            Sort::Yes => "yes",
+            Sort::No => "no",
+            Sort::Told => "told",
+            Sort::Outside => "outside",
+        }
+    }
 }
 
-impl Answer<'_> {
-    pub fn print(self, json: bool) -> Result<(), Failure> {
+/// What a trail answers.
+pub struct Answer {
+    pub sort: Sort,
+    /// what people are told, in lines; of several files in one line each
+    pub lines: Vec<String>,
+    /// a line for each visit that is told
+    pub visits: Vec<String>,
+    /// what programs are told, beside the file and its unit
+    pub fields: Vec<(&'static str, Json)>,
+}
+
+impl Answer {
+    /// Of a trail that isn't asked.
+    pub fn outside(trail: &Trail) -> Answer {
+        let (first, last) = (trail.first(), trail.last());
+        let span = trail.clock.span(first, last);
+        Answer {
+            sort: Sort::Outside,
+            lines: vec![format!("not asked; the trail has {span}")],
+            visits: Vec::new(),
+            fields: vec![
+                ("outside", Json::Truth(true)),
+                ("first", Json::Whole(first.into())),
+                ("last", Json::Whole(last.into())),
+            ],
+        }
+    }
+
+    fn print(self, trail: &Trail, several: bool, json: bool) -> Result<(), Failure> {
         if json {
-            return output::print_json(self.fields());
+            let file = ("file", Json::text(&trail.name));
+            let unit = ("unit", Json::unit(trail.unit()));
+            let fields = [file, unit].into_iter().chain(self.fields);
+            return output::print_json(Json::Object(fields.collect()));
         }
-        let unit = self.trail.unit();
-        let asked = match unit {
-            Unit::Centimetres => String::new(),
-            // who has asked in centimetres is to see that the trail isn't
-            Unit::Millimetres => format!(", {} in {}", self.asked, unit.symbol()),
+        let (name, lines) = match several {
+            true => {
+                let name = format!("{}: ", words::shown(&trail.name));
+                (name, vec![self.lines.join("; ")])
+            }
+            false => (String::new(), self.lines),
         };
-        output::print(&format!("{}{asked}; {}\n", self.text(), self.means))
+        let lines = lines.iter().chain(&self.visits);
+        output::print(
+            &lines
+                .map(|line| format!("{name}{line}\n"))
+                .collect::<String>(),
+        )
     }
+}
 
-    /// The answer itself: the time as it is, and on the trail's own clock, cut off after the thousandths.
-    fn text(&self) -> String {
-        let Some(Yes {
-            leg,
-            numerator,
-            denominator,
-        }) = self.yes
-        else {
-            return "no".into();
-        };
-        let leg = leg.map_or(String::new(), |leg| format!("on leg {leg}, closest "));
-        let moment = clock::cut(self.trail.first(), numerator, denominator);
-        let at = self.trail.clock.show_moment(moment);
-        let fraction = format!("{numerator}/{denominator} seconds after the first fix");
-        format!("yes, {leg}{fraction}, at {at}")
-    }
-
-    fn fields(self) -> Json {
-        let Answer { trail, yes, .. } = self;
-        let mut fields = vec![
-            ("file", Json::text(&trail.name)),
-            ("unit", Json::unit(trail.unit())),
-            (self.name, Json::Truth(yes.is_some())),
-        ];
-        if let Some(yes) = yes {
-            fields.extend(yes.leg.map(|leg| ("leg", Json::Whole(leg.into()))));
-            fields.push(("numerator", Json::Whole(yes.numerator.into())));
-            fields.push(("denominator", Json::Whole(yes.denominator.into())));
-            fields.push(("first", Json::Whole(trail.first().into())));
-        }
-        fields.push(("mark", Json::mark(trail.mark)));
-        fields.push(("silences", Json::silences(trail.kind, self.silences)));
-        fields.push(("means", Json::text(self.means)));
-        Json::Object(fields)
-    }
+/// Asks the trail of each file, and tells of all if there are several: how many answers were of each of these sorts.
+pub fn of_each(
+    arguments: &Arguments,
+    names: &[OsString],
+    sorts: &[Sort],
+    ask: impl Fn(&Trail) -> Result<Answer, Failure>,
+) -> Result<Status, Failure> {
+    let (clock, json) = (arguments.clock()?, arguments.has("--json"));
+    arguments.can_read(names.iter().map(OsString::as_os_str))?;
+    let mut answered = Vec::new();
+    let mut ends = many::each(names, json, |name| {
+        let trail = Trail::read(name, clock)?;
+        let answer = ask(&trail)?;
+        answered.push((name.to_os_string(), answer.sort));
+        answer.print(&trail, names.len() > 1, json)
+    })?;
+    let count = |sort: &Sort| {
+        let same = answered.iter().filter(|(_, answer)| answer == sort);
+        (sort.name(), same.count())
+    };
+    let counts: Vec<Counted> = sorts.iter().map(count).collect();
+    let yes = answered.into_iter().filter(|(_, sort)| *sort == Sort::Yes);
+    ends.yes = yes.map(|(name, _)| name).collect();
+    ends.tell(&counts, json)
 }

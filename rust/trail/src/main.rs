@@ -31,8 +31,10 @@ mod replay;
 mod store;
 mod table;
 mod trail;
+mod visits;
 mod words;
 mod write;
+mod yes_or_no;
 
 use std::ffi::{OsStr, OsString};
 use std::process::ExitCode;
@@ -64,9 +66,9 @@ usage: trail COMMAND ARGUMENTS
   dearest  make the trail that costs most to age, for sizing a controller
   age      thin trails, by a tolerance or by days
   table    check a hall's own table of days and tolerances, and print it
-  place    say where a cart was at a moment
-  cross    say whether a cart was in a box, and when first
-  near     say whether a cart came near a point, and when
+  place    say where carts were at a moment
+  cross    say which carts were in a box, and when first, or when at all
+  near     say which carts came near a point, and when
   replay   try a list of agings on a trail, and print what each does
   plot     draw a trail
 

@@ -9,6 +9,8 @@ use crate::{output, words};
 /// What became of many files.
 pub struct Ends {
     files: usize,
+    /// those that answered yes, where that is asked
+    pub yes: Vec<OsString>,
     refused: Vec<OsString>,
     failed: Vec<OsString>,
     pub worst: Status,
@@ -21,6 +23,7 @@ impl Ends {
     pub fn new() -> Ends {
         Ends {
             files: 0,
+            yes: Vec::new(),
             refused: Vec::new(),
             failed: Vec::new(),
             worst: Status::Done,
@@ -43,7 +46,7 @@ impl Ends {
         None
     }
 
-    /// What people are told of all files: how many there were, and of which sorts; and the refused ones by their names.
+    /// What people are told of all files: how many there were of each sort, and which said yes, were refused or failed.
     pub fn text(&self, counts: &[Counted]) -> String {
         let ends = [
             ("refused", self.refused.len()),
@@ -58,10 +61,11 @@ impl Ends {
                 false => format!("; {what}: {}", shown.join(", ")),
             }
         };
+        let yes = named("yes", &self.yes);
         let refused = named("refused", &self.refused);
         let failed = named("failed", &self.failed);
         format!(
-            "{} files: {}{refused}{failed}",
+            "{} files: {}{yes}{refused}{failed}",
             self.files,
             counts.join(", ")
         )

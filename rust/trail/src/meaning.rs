@@ -63,6 +63,22 @@ pub fn of_crossing(trail: &Trail, told: bool, silences: usize) -> String {
     format!("{means}{unknown}")
 }
 
+/// Of all visits in a window that has so many silences, or of none.
+pub fn of_visits(trail: &Trail, told: bool, silences: usize) -> String {
+    if !told {
+        return of_crossing(trail, false, silences);
+    }
+    let (outside, unknown) = silent(silences, " in the window");
+    let means = of_places(trail, |e| {
+        format!(
+            "at each told moment the cart was in the box or within {e} of the box, and if it was in \
+             the box at another time of the window, outside these visits{outside}, it was within {e} \
+             of an edge"
+        )
+    });
+    format!("{means}{unknown}")
+}
+
 /// Of an approach within this radius: told, or denied, of a trail that has so many silences. Its leg and time are the
 /// thinned trail's own: the original may have other legs, also at 0.
 pub fn of_approach(trail: &Trail, told: bool, radius: u32, silences: usize) -> String {

@@ -1,22 +1,23 @@
 //! `trail near`: says whether a cart came near a point, and when.
 
-use std::ffi::OsString;
+use trails::Point;
 
-use crate::answer::{Answer, Yes};
+use crate::answer::{of_each, Answer, Sort};
 use crate::arguments::{Arguments, Command};
 use crate::failure::{Failure, Status};
 use crate::meaning;
 use crate::trail::Trail;
+use crate::yes_or_no::{Time, When, YesOrNo};
 
 pub const COMMAND: Command = Command {
     name: "near",
     help: HELP,
-    options: &["--point", "--radius", "--json"],
+    options: &["--point", "--radius", "--epoch", "--json"],
     run,
 };
 
 const HELP: &str = "\
-usage: trail near [--json] FILE --point X Y --radius R
+usage: trail near [--epoch TIME] [--json] FILE... --point X Y --radius R
 
 Says whether the cart came within R of the point X Y, just R included, at some
 time of the trail. Both are in the trail's unit: centimetres, or, and then the
@@ -35,35 +36,46 @@ is less than E, a no says nothing of it. The mark is believed: of a record from
 elsewhere this holds if its mark is right. And it says how many silences the
 trail has, in which nobody knows where the cart was.
 
-  --json   print one line: {\"file\", \"unit\", \"near\": true, \"leg\",
-           \"numerator\", \"denominator\", \"first\": the first fix's second,
-           \"mark\", \"silences\": how many the trail has, null if it can have
-           none, \"means\"} or the same with \"near\": false and without leg,
-           numerator, denominator and first
+Of several FILEs each answer is in a line that begins with the file's name, and
+at the end standard error has how many said yes and no. Goes on past a refused
+file.
+
+  --epoch TIME  tell times on the clock; see 'trail help'
+  --json        print one line for each file: {\"file\", \"unit\",
+                \"near\": true, \"leg\", \"numerator\", \"denominator\",
+                \"first\": the first fix's second, \"mark\", \"silences\": how many
+                the trail has, null if it can have none, \"means\"} or the same
+                with \"near\": false and without leg, numerator, denominator and
+                first. Of several files a last line has {\"files\", \"yes\",
+                \"no\", \"refused\", \"failed\"}, the last two as names
 ";
 
+fn ask(trail: &Trail, point: Point, radius: u32) -> Result<Answer, Failure> {
+    let approach = trails::near(&trail.bytes, point, radius);
+    let approach = approach.map_err(|refusal| trail.refused(refusal))?;
+    let silences = trail.silences().count();
+    let time = approach.map(|approach| Time {
+        leg: Some(approach.leg),
+        numerator: approach.numerator,
+        denominator: approach.denominator,
+    });
+    let answer = YesOrNo {
+        trail,
+        name: "near",
+        asked: "the point and the radius",
+        when: time.map_or(When::Never, When::At),
+        silences,
+        means: meaning::of_approach(trail, approach.is_some(), radius, silences),
+    };
+    Ok(answer.answer())
+}
+
 fn run(arguments: &Arguments) -> Result<Status, Failure> {
-    let [name]: &[OsString; 1] = arguments.exactly("one file")?;
+    let names = arguments.several("one file or more")?;
     let point = arguments.point()?;
     let point = point.ok_or_else(|| arguments.wrong("--point X Y is missing"))?;
     let radius = arguments.number("--radius")?;
     let radius: u32 = radius.ok_or_else(|| arguments.wrong("--radius R is missing"))?;
-    let trail = Trail::read(name, arguments.clock()?)?;
-    let approach = trails::near(&trail.bytes, point, radius);
-    let approach = approach.map_err(|refusal| trail.refused(refusal))?;
-    let silences = trail.silences().count();
-    let answer = Answer {
-        trail: &trail,
-        name: "near",
-        asked: "the point and the radius",
-        yes: approach.map(|approach| Yes {
-            leg: Some(approach.leg),
-            numerator: approach.numerator,
-            denominator: approach.denominator,
-        }),
-        silences,
-        means: meaning::of_approach(&trail, approach.is_some(), radius, silences),
-    };
-    answer.print(arguments.has("--json"))?;
-    Ok(Status::Done)
+    let sorts = [Sort::Yes, Sort::No];
+    of_each(arguments, names, &sorts, |trail| ask(trail, point, radius))
 }

@@ -27,7 +27,7 @@ const fn choice(
 
 const EDGES: &[&str] = &["X0", "X1", "Y0", "Y1"];
 
-pub static OPTIONS: [Choice; 15] = [
+pub static OPTIONS: [Choice; 17] = [
     choice("--json", &[], None),
     choice("--epoch", &["TIME"], None),
     choice("--force", &[], None),
@@ -39,6 +39,8 @@ pub static OPTIONS: [Choice; 15] = [
     choice("--table", &["FILE"], None),
     choice("--box", EDGES, Some(Range::Places(None))),
     choice("--window", &["S", "E"], Some(Range::Seconds)),
+    choice("--within", &[], None),
+    choice("--all", &[], None),
     choice("--point", &["X", "Y"], Some(Range::Places(None))),
     choice("--radius", &["R"], Some(Range::Radii)),
     choice("--original", &["FILE"], None),

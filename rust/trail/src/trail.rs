@@ -79,6 +79,38 @@ impl Trail {
         self.fixes.last().map_or(0, |fix| fix.t)
     }
 
+    /// All its times.
+    pub fn times(&self) -> Window {
+        Window {
+            start: self.first(),
+            end: self.last(),
+        }
+    }
+
+    /// Whether a moment is one of its times.
+    pub fn has(&self, moment: Moment) -> bool {
+        let Moment {
+            second,
+            thousandths,
+        } = moment;
+        let at_end = second == self.last() && thousandths == 0;
+        self.first() <= second && (second < self.last() || at_end)
+    }
+
+    /// The part of a window that it has, or all its times if none is given; none if it has no time of the window. One
+    /// that ends before it starts has no parts, and is left to be refused.
+    pub fn within(&self, window: Option<Window>) -> Option<Window> {
+        let all = self.times();
+        match window {
+            None => Some(all),
+            Some(window) if window.end < window.start => Some(window),
+            Some(Window { start, end }) => {
+                let (start, end) = (start.max(all.start), end.min(all.end));
+                (start <= end).then_some(Window { start, end })
+            }
+        }
+    }
+
     /// A question that is turned away, with the trail's times if it is about them.
     pub fn refused(&self, refusal: Refusal) -> Failure {
         let about_times = matches!(refusal, Refusal::BadMoment | Refusal::BadWindow);

@@ -4,9 +4,11 @@
 mod anchors;
 mod answers;
 mod approaches;
+mod clock;
 mod dearest;
 mod folder;
 mod links;
+mod many;
 mod pictures;
 mod readme;
 mod refusals;
@@ -14,3 +16,4 @@ mod sharing;
 mod storing;
 mod texts;
 mod usage;
+mod visits;
