@@ -2,8 +2,14 @@
  * and by a hall's own, and asked about; the same with a silence in it; the same in
  * millimetres; a cart that an anchor in the ceiling sees; and the trail that costs most.
  *
+ * After './install PREFIX', with PREFIX/lib/pkgconfig in PKG_CONFIG_PATH:
+ *
+ *   cc cart.c $(pkg-config --cflags --libs trails) -o cart && LD_LIBRARY_PATH=PREFIX/lib ./cart
+ *
+ * In the source tree:
+ *
  *   rt staticlib export
- *   cc -I include examples/cart.c target/staticlib/libexport.a -o cart && ./cart
+ *   cc -I include examples/cart.c library/trails.c target/staticlib/libexport.a -o cart && ./cart
  */
 #include <stdio.h>
 
@@ -31,6 +37,11 @@ static const uint16_t row_tolerances[ROWS] = {5, 50};
 static uint8_t record[10 + 12 * FIXES];
 static uint8_t text[TRAILS_TEXT];
 
+/* Prints why something is refused. */
+static void refused(uint32_t refusal) {
+    printf("refused %u: %s\n", (unsigned)refusal, trails_sentence(refusal));
+}
+
 /* Prints the record as text for people. */
 static void list(void) {
     size_t length = trails_list(record, sizeof record, text);
@@ -39,10 +50,11 @@ static void list(void) {
 
 /* Prints what an aging answered. */
 static void aged(const char *what, struct trails_answer answer) {
+    printf("%s: ", what);
     if (answer.refusal != TRAILS_ACCEPTED)
-        printf("%s: refused %u\n", what, (unsigned)answer.refusal);
+        refused(answer.refusal);
     else
-        printf("%s: %u fixes measured\n", what, (unsigned)answer.value);
+        printf("%u fixes measured\n", (unsigned)answer.value);
 }
 
 /* The hall's own table. One that is refused has no rows, so what it is handed to is
@@ -50,19 +62,20 @@ static void aged(const char *what, struct trails_answer answer) {
 static struct trails_table hall(void) {
     struct trails_loaded loaded = trails_load(row_days, ROWS, row_tolerances, ROWS);
     if (loaded.refusal != TRAILS_ACCEPTED)
-        printf("table: refused %u\n", (unsigned)loaded.refusal);
+        refused(loaded.refusal);
     return loaded.table;
 }
 
 /* Prints what the record is given on a day by the hall's own table. */
 static void given(uint16_t days) {
     struct trails_applied a = trails_days_apply(record, sizeof record, days, hall());
+    printf("day %u: ", (unsigned)days);
     if (a.refusal != TRAILS_ACCEPTED)
-        printf("day %u: refused %u\n", (unsigned)days, (unsigned)a.refusal);
+        refused(a.refusal);
     else if (a.applies)
-        printf("day %u: tolerance %u\n", (unsigned)days, (unsigned)a.tolerance);
+        printf("tolerance %u\n", (unsigned)a.tolerance);
     else
-        printf("day %u: no tolerance\n", (unsigned)days);
+        printf("no tolerance\n");
 }
 
 /* Makes a list of agings by two tables, and prints what became of it. */
@@ -72,7 +85,7 @@ static void run(const uint64_t *calls, size_t count) {
         trails_run(record, sizeof record, calls, count, (const uint16_t *)tables,
                    2 * TRAILS_TABLE_NUMBERS);
     if (done.refusal != TRAILS_ACCEPTED)
-        printf("list: refused %u\n", (unsigned)done.refusal);
+        refused(done.refusal);
     else
         printf("list: %zu of %zu calls turned away\n", done.turned_away, count);
 }
@@ -103,27 +116,29 @@ static void where(uint32_t second, uint16_t thousandths) {
     struct trails_head head = trails_check(record, sizeof record);
     const char *unit = head.kind == TRAILS_MILLIMETRES ? "mm" : "cm";
     struct trails_place p = trails_place(record, sizeof record, second, thousandths);
+    printf("at %u.%03u: ", (unsigned)second, thousandths);
     if (p.refusal == TRAILS_IN_SILENCE)
-        printf("at %u.%03u: in a silence, so nobody knows\n", (unsigned)second, thousandths);
+        printf("in a silence, so nobody knows\n");
     else if (p.refusal != TRAILS_ACCEPTED)
-        printf("at %u.%03u: refused %u\n", (unsigned)second, thousandths, (unsigned)p.refusal);
+        refused(p.refusal);
     else
-        printf("at %u.%03u: %lld/%u, %lld/%u, so about %d, %d %s\n", (unsigned)second,
-               thousandths, (long long)p.x, (unsigned)p.denominator, (long long)p.y,
-               (unsigned)p.denominator, (int)p.whole_x, (int)p.whole_y, unit);
+        printf("%lld/%u, %lld/%u, so about %d, %d %s\n", (long long)p.x,
+               (unsigned)p.denominator, (long long)p.y, (unsigned)p.denominator,
+               (int)p.whole_x, (int)p.whole_y, unit);
 }
 
 /* Whether the cart was on the packing area, 150 to 250 by 100 to 200, in a window. */
 static void packed(uint32_t start, uint32_t end) {
     struct trails_crossing c =
         trails_crosses(record, sizeof record, start, end, 150, 250, 100, 200);
+    printf("from %u to %u: ", (unsigned)start, (unsigned)end);
     if (c.refusal != TRAILS_ACCEPTED)
-        printf("from %u to %u: refused %u\n", (unsigned)start, (unsigned)end, (unsigned)c.refusal);
+        refused(c.refusal);
     else if (c.crosses)
-        printf("from %u to %u: packed, first %llu/%u s after the first fix\n", (unsigned)start,
-               (unsigned)end, (unsigned long long)c.numerator, (unsigned)c.denominator);
+        printf("packed, first %llu/%u s after the first fix\n",
+               (unsigned long long)c.numerator, (unsigned)c.denominator);
     else
-        printf("from %u to %u: not packed\n", (unsigned)start, (unsigned)end);
+        printf("not packed\n");
 }
 
 /* Whether the cart came near the washer, on which leg first, and when it was closest
@@ -132,7 +147,7 @@ static void washed(int32_t x, int32_t y, uint32_t radius) {
     struct trails_approach a = trails_near(record, sizeof record, x, y, radius);
     printf("within %u of %d, %d: ", (unsigned)radius, (int)x, (int)y);
     if (a.refusal != TRAILS_ACCEPTED)
-        printf("refused %u\n", (unsigned)a.refusal);
+        refused(a.refusal);
     else if (a.approaches)
         printf("washed, on leg %u, closest %llu/%llu s after the first fix\n", (unsigned)a.leg,
                (unsigned long long)a.numerator, (unsigned long long)a.denominator);
@@ -145,7 +160,7 @@ static void with_silences(void) {
     struct trails_answer written = trails_write_silences(
         times, FIXES, xs, FIXES, ys, FIXES, silences, FIXES, record, sizeof record);
     if (written.refusal != TRAILS_ACCEPTED) {
-        printf("refused %u\n", (unsigned)written.refusal);
+        refused(written.refusal);
         return;
     }
     where(1050, 0);
@@ -162,7 +177,7 @@ static void in_millimetres(void) {
     struct trails_answer written = trails_write_millimetres(
         times, FIXES, fine_xs, FIXES, fine_ys, FIXES, record, sizeof record);
     if (written.refusal != TRAILS_ACCEPTED) {
-        printf("refused %u\n", (unsigned)written.refusal);
+        refused(written.refusal);
         return;
     }
     where(1015, 500);
@@ -179,11 +194,11 @@ static void in_millimetres(void) {
 /* Takes what an anchor has sent, and prints the place that a fix would have. The state is
  * for the next reading; a refused one leaves it as it was. */
 static struct trails_anchor_state sent(const char *what, struct trails_anchored a) {
+    printf("%s: ", what);
     if (a.refusal != TRAILS_ACCEPTED)
-        printf("%s: refused %u\n", what, (unsigned)a.refusal);
+        refused(a.refusal);
     else
-        printf("%s: %.4f, %.4f, so about %d, %d cm\n", what, a.state.x, a.state.y, (int)a.x,
-               (int)a.y);
+        printf("%.4f, %.4f, so about %d, %d cm\n", a.state.x, a.state.y, (int)a.x, (int)a.y);
     return a.state;
 }
 
@@ -210,7 +225,8 @@ static void anchored(void) {
 static void dearest(size_t n) {
     struct trails_answer written = trails_dearest(n, record, sizeof record);
     if (written.refusal != TRAILS_ACCEPTED) {
-        printf("%zu fixes: refused %u\n", n, (unsigned)written.refusal);
+        printf("%zu fixes: ", n);
+        refused(written.refusal);
         return;
     }
     aged("at most", trails_age(record, sizeof record, 1));
@@ -222,7 +238,7 @@ int main(void) {
     struct trails_answer written =
         trails_write(times, FIXES, xs, FIXES, ys, FIXES, record, sizeof record);
     if (written.refusal != TRAILS_ACCEPTED) {
-        fprintf(stderr, "refused %u\n", (unsigned)written.refusal);
+        refused(written.refusal);
         return 1;
     }
     list();

@@ -1,8 +1,11 @@
 /* Cart trails, for C.
  *
- * Link with libexport.a. The functions allocate nothing, keep nothing between
- * calls, and may be called from several threads at once as long as no buffer
- * that one of them writes is lent to another at the same time.
+ * Link with libtrails, which './install PREFIX' puts below a folder with this page:
+ *   cc cart.c $(pkg-config --cflags --libs trails)
+ * or, in the source tree, with library/trails.c and the archive of the proved functions,
+ * target/staticlib/libexport.a, which 'rt staticlib export' makes. The functions allocate
+ * nothing, keep nothing between calls, and may be called from several threads at once as
+ * long as no buffer that one of them writes is lent to another at the same time.
  *
  * A buffer is a pointer and the number of its elements. The pointer isn't null
  * and is aligned for its elements, even where the number is 0; all the elements
@@ -112,32 +115,69 @@
 extern "C" {
 #endif
 
+/* The refusals in checking order, each with its number and its sentence: a program can make
+ * tables of its own by handing over a macro of these three. trails_sentence below tells
+ * them too. Limits that kinds have for themselves are those of centimetres first. */
+#define TRAILS_REFUSALS(ROW)                                                           \
+    ROW(TRAILS_FEW_BYTES, 1, "The lent bytes are fewer than 10.")                      \
+    ROW(TRAILS_OTHER_KIND, 2, "The kind isn't 1, 2 or 3.")                             \
+    ROW(TRAILS_BAD_COUNT, 3, "The count is 0 or above 4,096.")                         \
+    ROW(TRAILS_BAD_LENGTH, 4,                                                          \
+        "The length field isn't 10 + 8 (in millimetres 12, with silences 9) times "    \
+        "the count.")                                                                  \
+    ROW(TRAILS_SHORT_RECORD, 5, "The lent bytes are fewer than the length field.")     \
+    ROW(TRAILS_BAD_MARK, 6,                                                            \
+        "The mark is above 32,000 (in millimetres 60,000) and isn't 65,535.")          \
+    ROW(TRAILS_MISPLACED, 7,                                                           \
+        "Some x or y is outside -16,000 to 16,000 (in millimetres -160,000 to "        \
+        "160,000).")                                                                   \
+    ROW(TRAILS_UNORDERED, 8, "Some fix's time isn't later than the time before it.")   \
+    ROW(TRAILS_LONG_SPAN, 9, "The last time less the first is above 65,535.")          \
+    ROW(TRAILS_BAD_SILENCE, 20,                                                        \
+        "A silence byte is neither 0 nor 1, or the last fix has 1.")                   \
+    ROW(TRAILS_BAD_ROW_COUNT, 22, "The table has no rows, or more than 32.")           \
+    ROW(TRAILS_BAD_ROWS, 23,                                                           \
+        "The table's days don't rise strictly, its tolerances fall, or one is above "  \
+        "32,000.")                                                                     \
+    ROW(TRAILS_BAD_POINT, 16,                                                          \
+        "The point is outside -16,000 to 16,000 (in millimetres -160,000 to "          \
+        "160,000), or the radius is above 32,000 (in millimetres 320,000).")           \
+    ROW(TRAILS_HIGH_TOLERANCE, 10,                                                     \
+        "The asked tolerance is above 32,000 (in millimetres 60,000).")                \
+    ROW(TRAILS_BAD_THOUSANDTHS, 11, "The asked thousandths are above 999.")            \
+    ROW(TRAILS_BAD_MOMENT, 12,                                                         \
+        "The asked moment is before the first fix or after the last.")                 \
+    ROW(TRAILS_IN_SILENCE, 21, "The moment is strictly inside a silence.")             \
+    ROW(TRAILS_BAD_WINDOW, 13,                                                         \
+        "The window's end is before its start, or either is outside the trail's "      \
+        "times.")                                                                      \
+    ROW(TRAILS_BAD_BOX, 14,                                                            \
+        "A box edge is outside -16,000 to 16,000 (in millimetres -160,000 to "         \
+        "160,000), or a low edge is above its high edge.")                             \
+    ROW(TRAILS_SHORT_OUTPUT, 15,                                                       \
+        "The output has fewer than 10 + 8n (in millimetres 10 + 12n, with silences "   \
+        "10 + 9n) bytes.")                                                             \
+    ROW(TRAILS_BAD_READING, 17,                                                        \
+        "A value isn't finite, or isn't a whole number of sixteenths.")                \
+    ROW(TRAILS_BAD_STATE, 18,                                                          \
+        "A step comes with a state that has no place yet, or one that 17 or 19 would " \
+        "turn away.")                                                                  \
+    ROW(TRAILS_BAD_NEW_PLACE, 19, "The new place is outside -16,000 to 16,000.")
+
+#define TRAILS_NUMBER(name, number, sentence) name = number,
 enum {
-    TRAILS_ACCEPTED = 0,         /* not refused */
-    TRAILS_FEW_BYTES = 1,        /* fewer than 10 bytes are lent */
-    TRAILS_OTHER_KIND = 2,       /* the kind isn't 1, 2 or 3 */
-    TRAILS_BAD_COUNT = 3,        /* no fix, or more than 4,096 */
-    TRAILS_BAD_LENGTH = 4,       /* the length field isn't the length of so many fixes */
-    TRAILS_SHORT_RECORD = 5,     /* fewer bytes are lent than the length field says */
-    TRAILS_BAD_MARK = 6,         /* the mark is beyond its limit, and not 65,535 */
-    TRAILS_MISPLACED = 7,        /* an x or a y is beyond its limits */
-    TRAILS_UNORDERED = 8,        /* a fix's time isn't later than the time before */
-    TRAILS_LONG_SPAN = 9,        /* more than 65,535 seconds from first to last fix */
-    TRAILS_BAD_SILENCE = 20,     /* a silence byte is neither 0 nor 1, or the last fix has 1 */
-    TRAILS_BAD_ROW_COUNT = 22,   /* the table has no rows, or more than 32 */
-    TRAILS_BAD_ROWS = 23,        /* days don't rise strictly, tolerances fall, or one is above 32,000 */
-    TRAILS_BAD_POINT = 16,       /* the point or the radius is beyond its limits */
-    TRAILS_HIGH_TOLERANCE = 10,  /* the asked tolerance is above its limit */
-    TRAILS_BAD_THOUSANDTHS = 11, /* the asked thousandths are above 999 */
-    TRAILS_BAD_MOMENT = 12,      /* the moment is before the first fix or after the last */
-    TRAILS_IN_SILENCE = 21,      /* the moment is strictly inside a silence */
-    TRAILS_BAD_WINDOW = 13,      /* it ends before it starts, or not all is in the trail's times */
-    TRAILS_BAD_BOX = 14,         /* an edge is beyond its limits, or low above high */
-    TRAILS_SHORT_OUTPUT = 15,    /* the output has fewer bytes than the record */
-    TRAILS_BAD_READING = 17,     /* a value isn't finite, or isn't a whole number of sixteenths */
-    TRAILS_BAD_STATE = 18,       /* a step from no place, or from one that 17 or 19 would turn away */
-    TRAILS_BAD_NEW_PLACE = 19    /* the new place is outside -16,000 to 16,000 */
+    TRAILS_REFUSALS(TRAILS_NUMBER)
+    TRAILS_ACCEPTED = 0 /* not refused */
 };
+#undef TRAILS_NUMBER
+
+/* The version of this page. As long as the first number is 0, another second number may
+ * have other structs and functions, so a library is for programs that were compiled with
+ * its own first two numbers. trails_version below tells the library's. */
+#define TRAILS_VERSION_MAJOR 0
+#define TRAILS_VERSION_MINOR 1
+#define TRAILS_VERSION_PATCH 0
+#define TRAILS_VERSION "0.1.0"
 
 /* The kinds. */
 #define TRAILS_CENTIMETRES 1u
@@ -298,6 +338,14 @@ struct trails_anchored {
     int32_t y;
     struct trails_anchor_state state;
 };
+
+/* The version of the linked library, like TRAILS_VERSION. */
+const char *trails_version(void);
+
+/* The sentence of a refusal, as TRAILS_REFUSALS has it. 0 has one too, and so has every
+ * number that is no refusal: the answer is never null. It stays as long as the program
+ * runs, is ASCII, and isn't to be freed. */
+const char *trails_sentence(uint32_t refusal);
 
 /* Whether the lent bytes begin with a record. Makes checks 1 to 9 and 20; where
  * none fails, refusal is 0, and kind, count and mark are the record's. */

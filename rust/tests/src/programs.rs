@@ -45,7 +45,7 @@ pub fn printed(program: &Path, input: &[u8], piece: usize) -> Vec<u8> {
 }
 
 /// Compiles a C program against `include/trails.h`, with every warning an error, and links the archive of the proved
-/// functions. The compiler is `cc`, or what CC names.
+/// functions and the file that stands beside them in the library. The compiler is `cc`, or what CC names.
 pub fn compile(source: &Path, program: &Path) {
     let compiler = std::env::var("CC").unwrap_or_else(|_| "cc".to_string());
     let output = Command::new(&compiler)
@@ -53,6 +53,7 @@ pub fn compile(source: &Path, program: &Path) {
         .arg("-I")
         .arg(project().join("include"))
         .arg(source)
+        .arg(project().join("library/trails.c"))
         .arg(project().join("target/staticlib/libexport.a"))
         .arg("-o")
         .arg(program)

@@ -91,3 +91,6 @@ pub use record::{Head, LONGEST, MOST_FIXES};
 pub use refusal::Refusal;
 pub use table::{Row, Table};
 pub use unit::{in_threes, Limits, Unit};
+
+/// The version of this package and of the proved functions that it links, as `TRAILS_VERSION` of the header has it.
+pub const VERSION: &str = env!("CARGO_PKG_VERSION");

@@ -25,20 +25,20 @@ fn text(path: &str) -> String {
 
 // ---- the header
 
-/// Nor what the compiler never sees, like a macro that takes parameters.
+/// Nor what the compiler never sees, like a macro that takes parameters, over however many lines.
 fn without_comments(text: &str) -> String {
     let parts = text.split("/*").enumerate();
     let code = parts.map(|(k, part)| match part.split_once("*/") {
         Some((_, code)) if k > 0 => code,
         _ => part,
     });
-    let code: String = code.collect();
+    let code: String = code.collect::<String>().replace("\\\n", " ");
     let lines = code.lines().filter(|line| !line.starts_with('#'));
     lines.collect::<Vec<_>>().join("\n")
 }
 
 /// A struct's name in Rust: of `anchor_state`, `AnchorState`.
-fn struct_name(c: &str) -> String {
+pub fn struct_name(c: &str) -> String {
     let word = |word: &str| word[..1].to_uppercase() + &word[1..];
     c.split('_').map(word).collect()
 }
@@ -80,23 +80,28 @@ fn c_parameter(text: &str) -> Parameter {
 }
 
 fn c_function(declaration: &str) -> Option<Function> {
-    let (before, after) = declaration.split_once('(')?;
-    let (answer, name) = before.trim().rsplit_once(' ')?;
+    // a list in braces may have a macro with its parameters in it
+    let plain = Some(declaration).filter(|text| !text.contains('{'));
+    let (before, after) = plain?.split_once('(')?;
+    let Parameter { name, kind: answer } = c_parameter(before);
     Some(Function {
-        name: name.to_string(),
+        name,
         parameters: after
             .trim_end_matches(')')
             .split(',')
             .filter(|parameter| *parameter != "void")
             .map(c_parameter)
             .collect(),
-        answer: kind(answer),
+        answer,
     })
 }
 
+/// The proved functions: those of which no answer is a text. The others aren't in the archive, and Rust has their texts.
 pub fn in_header() -> Vec<Function> {
     let text = without_comments(&text("include/trails.h"));
-    text.split(';').filter_map(c_function).collect()
+    let all = text.split(';').filter_map(c_function);
+    all.filter(|function| function.answer != "*const char")
+        .collect()
 }
 
 // ---- Rust

@@ -8,7 +8,7 @@ mod fields;
 mod in_c;
 mod lent;
 
-use declared::{in_header, in_rust, Function};
+use declared::{in_header, in_rust, struct_name, Function};
 use fields::{layouts, of_anchored, of_answer, of_applied, of_approach, of_crossing, of_first};
 use fields::{of_head, of_loaded, of_place, of_run, of_state, of_step, of_table, of_time, Layout};
 use in_c::{from_c, printed, InC};
@@ -17,12 +17,12 @@ use lent::{
 };
 use lent::{lent_readings, state_in_c, CIRCLE, QUESTION, READING_COUNTS, ROW_COUNTS, SECOND};
 use lent::{STATE, STEP, THOUSANDTHS, TOLERANCE};
+use trails::Refusal;
 use trails_tests::plain::anchors::Reading;
 use trails_tests::plain::kinds::{Kind, CENTIMETRES, MILLIMETRES, SILENCES};
 use trails_tests::plain::lists::{self, Call};
 use trails_tests::plain::table::{Table, NUMBERS, ROWS};
 use trails_tests::plain::{self, approach, crossing};
-use trails_tests::programs::project;
 use trails_tests::{expected, interface};
 
 #[test]
@@ -82,23 +82,63 @@ fn calls_by_a_table_have_one_number() {
     assert_eq!(printed("by_table", &(source + "return 0;\n}\n")), want);
 }
 
-/// The refusals stand in the header in checking order, each with a number of the documents.
-#[test]
-fn refusals_stand_in_checking_order() {
-    let text = std::fs::read_to_string(project().join("include/trails.h")).expect("it is there");
-    let (_, after) = text.split_once("enum {").expect("its refusals");
-    let (all, _) = after.split_once("};").expect("their end");
-    let number = |line: &str| line.split_once(" = ").map(|(_, after)| first_number(after));
-    let numbers: Vec<u32> = all.lines().filter_map(number).collect();
-    let order = [
-        0, 1, 2, 3, 4, 5, 6, 7, 8, 9, 20, 22, 23, 16, 10, 11, 12, 21, 13, 14, 15, 17, 18, 19,
-    ];
-    assert_eq!(numbers, order);
+/// The names and numbers of the refusals in C, in the order of the header's table.
+fn refusals_in_c() -> Vec<(String, u32)> {
+    let source = "#define PRINT(name, number, sentence) printf(\"%s %d\\n\", #name, (int)name);
+int main(void) { TRAILS_REFUSALS(PRINT) return TRAILS_ACCEPTED; }
+";
+    let text = printed("refusals", source);
+    let row = |line: &str| {
+        let (name, number) = line.split_once(' ').expect("a name and a number");
+        (name.to_string(), number.parse().expect("a number"))
+    };
+    text.lines().map(row).collect()
 }
 
-fn first_number(text: &str) -> u32 {
-    let digits: String = text.chars().take_while(char::is_ascii_digit).collect();
-    digits.parse().expect("a number")
+/// The refusals stand in the header in checking order, each with a number of the documents and the name that Rust has.
+#[test]
+fn refusals_stand_in_checking_order() {
+    let all = refusals_in_c();
+    let numbers: Vec<u32> = all.iter().map(|(_, number)| *number).collect();
+    let order = [
+        1, 2, 3, 4, 5, 6, 7, 8, 9, 20, 22, 23, 16, 10, 11, 12, 21, 13, 14, 15, 17, 18, 19,
+    ];
+    assert_eq!(numbers, order);
+    for (name, number) in all {
+        let name = name.strip_prefix("TRAILS_").expect("its prefix");
+        let refusal = Refusal::from_number(number);
+        assert_eq!(struct_name(&name.to_lowercase()), format!("{refusal:?}"));
+    }
+}
+
+/// Each refusal has one sentence in all languages, in C in plain ASCII. Every other number has a sentence too.
+#[test]
+fn sentences_are_those_of_rust() {
+    let numbers: Vec<u32> = (0..=30).chain([255, 256, 65_536 + 7, u32::MAX]).collect();
+    let (mut source, mut want) = (String::from("int main(void) {\n"), String::new());
+    for number in numbers {
+        source += &format!("printf(\"%s\\n\", trails_sentence({number}u));\n");
+        let sentence = match number {
+            0 => "Not refused.".to_string(),
+            refused => Refusal::from_number(refused).to_string().replace('−', "-"),
+        };
+        assert!(sentence.is_ascii(), "{sentence}");
+        want += &format!("{sentence}\n");
+    }
+    assert_eq!(printed("sentences", &(source + "return 0;\n}\n")), want);
+}
+
+#[test]
+fn the_version_is_the_packages() {
+    let source = "int main(void) {
+printf(\"%d.%d.%d\\n\", TRAILS_VERSION_MAJOR, TRAILS_VERSION_MINOR, TRAILS_VERSION_PATCH);
+printf(\"%s\\n%s\\n\", TRAILS_VERSION, trails_version());
+return 0;
+}
+";
+    let version = trails::VERSION;
+    let text = printed("version", source);
+    assert_eq!(text, format!("{version}\n{version}\n{version}\n"));
 }
 
 /// What the plain version answers to a function, with all that was lent after it.
