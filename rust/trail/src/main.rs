@@ -11,6 +11,7 @@ mod arguments;
 mod beside;
 mod check;
 mod clock;
+mod completion;
 mod cross;
 mod dearest;
 mod failure;
@@ -20,6 +21,7 @@ mod lines;
 mod list;
 mod made;
 mod many;
+mod manual;
 mod meaning;
 mod near;
 mod numbers;
@@ -43,7 +45,7 @@ use std::thread;
 use arguments::{Arguments, Command};
 use failure::{Failure, Status};
 
-static COMMANDS: [Command; 11] = [
+static COMMANDS: &[Command] = &[
     list::COMMAND,
     check::COMMAND,
     write::COMMAND,
@@ -55,6 +57,8 @@ static COMMANDS: [Command; 11] = [
     near::COMMAND,
     replay::COMMAND,
     plot::COMMAND,
+    manual::COMMAND,
+    completion::COMMAND,
 ];
 
 const HELP: &str = "\
@@ -71,6 +75,10 @@ usage: trail COMMAND ARGUMENTS
   near     say which carts came near a point, and when
   replay   try a list of agings on a trail, and print what each does
   plot     draw a trail
+
+  manual      print the manual page
+  completion  print what bash completes the words of trail by
+  --version   print which version this is
 
 'trail help COMMAND' says more. A file '-' is the standard input or output.
 After '--' no argument is an option, and '-' is a file's name. '--box 0 9 0 9'
@@ -148,6 +156,17 @@ fn help(about: &[OsString]) -> Result<Status, Failure> {
     Ok(Status::Done)
 }
 
+/// Prints which command this is, and which library is linked.
+fn version(rest: &[OsString]) -> Result<Status, Failure> {
+    if !rest.is_empty() {
+        let what = "--version takes no words; try 'trail --help'";
+        return Err(Failure::Usage(what.into()));
+    }
+    let (command, library) = (env!("CARGO_PKG_VERSION"), trails::VERSION);
+    output::print(&format!("trail {command}\nlibrary trails {library}\n"))?;
+    Ok(Status::Done)
+}
+
 fn obey(words: &[OsString]) -> Result<Status, Failure> {
     let Some((name, rest)) = words.split_first() else {
         let what = "no command is given; try 'trail --help'";
@@ -155,6 +174,9 @@ fn obey(words: &[OsString]) -> Result<Status, Failure> {
     };
     if name == "help" || name == "--help" || name == "-h" {
         return help(rest);
+    }
+    if name == "--version" || name == "-V" {
+        return version(rest);
     }
     let command = command_named(name)?;
     if asks_help(rest) {

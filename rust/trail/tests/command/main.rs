@@ -9,6 +9,7 @@ mod dearest;
 mod folder;
 mod links;
 mod many;
+mod pages;
 mod pictures;
 mod readme;
 mod refusals;
