@@ -116,8 +116,9 @@ extern "C" {
 #endif
 
 /* The refusals in checking order, each with its number and its sentence: a program can make
- * tables of its own by handing over a macro of these three. trails_sentence below tells
- * them too. Limits that kinds have for themselves are those of centimetres first. */
+ * tables of its own by handing over a macro of these three. A limit that not all kinds
+ * share is that of centimetres, with the others after it. trails_sentence below tells the
+ * sentences too. */
 #define TRAILS_REFUSALS(ROW)                                                           \
     ROW(TRAILS_FEW_BYTES, 1, "The lent bytes are fewer than 10.")                      \
     ROW(TRAILS_OTHER_KIND, 2, "The kind isn't 1, 2 or 3.")                             \

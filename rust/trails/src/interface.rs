@@ -1,5 +1,6 @@
-//! The functions of `include/trails.h`, one for one: slices in place of pointers, and answers in numbers as the header has
-//! them. The rest of this package puts types in their place, so a program wants these only to see the numbers themselves.
+//! The proved functions of `include/trails.h`, one for one: slices in place of pointers, and answers in numbers as the
+//! header has them. The rest of this package puts types in their place, so a program wants these only to see the numbers
+//! themselves.
 //!
 //! This is the only file with `unsafe`, so the module `system` stands here too.
 #![allow(unsafe_code)]

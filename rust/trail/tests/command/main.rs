@@ -7,6 +7,7 @@ mod approaches;
 mod clock;
 mod dearest;
 mod folder;
+mod install;
 mod links;
 mod many;
 mod pages;
