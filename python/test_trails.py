@@ -5,6 +5,7 @@
 
 from __future__ import annotations
 
+import doctest
 import os
 import pickle
 import re
@@ -301,6 +302,10 @@ class Refusals(unittest.TestCase):
 
 
 class Library(unittest.TestCase):
+    def test_the_modules_example(self):
+        failed, tried = doctest.testmod(trails)
+        self.assertEqual((failed, tried > 0), (0, True))
+
     def imported(self, library):
         """What comes of importing the module with another library."""
         environment = dict(os.environ, TRAILS_LIBRARY=library)

@@ -6,16 +6,22 @@ changes the bytes that it is given, and one that makes a new record answers new 
 documents turn away raises Refused, and a number that doesn't fit where it goes ValueError.
 
 Times are in seconds. All lengths are in the record's own unit, centimetres or millimetres, and
-exact answers are fractions. Between a fix that says silence and the next one nobody knows where
-the cart was: draw each stretch between silences by itself.
+exact answers are fractions.
 
-    import trails
-    trail = trails.read("cart.trail")
-    for stretch in trail.stretches:
+    >>> import trails
+    >>> record = trails.write([(0, 0, 0), (10, 20, 0), (20, 20, 0), (30, 0, 0)])
+    >>> trails.place(record, 5, 250).x
+    Fraction(21, 2)
+    >>> trails.crosses(record, trails.Box(left=5, right=10, bottom=-1, top=1))
+    Fraction(5, 2)
+    >>> trails.fixes(trails.age(record, 25).record)
+    [Fix(t=0, x=0, y=0, silence=False), Fix(t=30, x=0, y=0, silence=False)]
+
+Between a fix that says silence and the next one nobody knows where the cart was, so each stretch
+between silences is drawn by itself:
+
+    for stretch in trails.read("cart.trail").stretches:
         pyplot.plot([fix.x for fix in stretch], [fix.y for fix in stretch])
-    trails.place(trail.record, 1015, 500).x         # Fraction(21, 2)
-    trails.crosses(trail.record, trails.Box(5, 10, -1, 1), (0, 30))
-    thinner = trails.age(trail.record, 25).record
 
 The library is found where './install PREFIX' put it beside this file; another is taken if the
 environment's TRAILS_LIBRARY names it. An aging takes up to 792,000 bytes of stack.

@@ -165,11 +165,20 @@ fn a_command_that_runs_is_not_disturbed() {
     assert!(ran.text().starts_with("trail 4 never\n"), "{}", ran.text());
 }
 
+/// The names are printed when all is there.
+#[test]
+fn a_reader_that_hangs_up_stops_nothing() {
+    let folder = Folder::new();
+    let install = project().join("install");
+    done(&sh(&folder, "\"$1\" prefix | true", &[&install]));
+    assert_eq!(files(&folder.path().join("prefix")), expected());
+}
+
 #[test]
 fn a_package_is_made_below_destdir() {
     let folder = Folder::new();
     let script =
-        "DESTDIR=$PWD/stage \"$1\" /usr/local; DESTDIR=relative \"$1\" /usr > names; cat names";
+        "DESTDIR=$PWD/stage \"$1\" /usr/local; DESTDIR=relative \"$1\" /usr/ > names; cat names";
     let ran = sh(&folder, script, &[&project().join("install")]);
     done(&ran);
     assert_eq!(files(&folder.path().join("stage/usr/local")), expected());
