@@ -29,7 +29,7 @@ const EDGES: &[&str] = &["X0", "X1", "Y0", "Y1"];
 
 pub static OPTIONS: [Choice; 17] = [
     choice("--json", &[], None),
-    choice("--epoch", &["TIME"], None),
+    choice("--epoch", &["TIME"], Some(Range::Seconds)),
     choice("--force", &[], None),
     choice("--millimetres", &[], None),
     choice("--anchors", &[], None),

@@ -199,12 +199,13 @@ fn files_are_completed_and_numbers_are_not() {
         &["cross", "--box", "1", "-2", "3", "-"],
         &["cross", "--box", "=", "1,2"],
         &["cross", "h", "--window", "0", ""],
+        &["list", "--epoch", ""],
     ] {
         assert_eq!(completed(words), nothing, "{words:?}");
     }
     // an option ends the values of the one before
     let (options, _) = completed(&["cross", "--box", "1", "--json", "--w"]);
-    assert_eq!(options, ["--window"]);
+    assert_eq!(options, ["--window", "--within"]);
     let (options, _) = completed(&["cross", "--box", "=", "1,2,3,4", "--w"]);
-    assert_eq!(options, ["--window"]);
+    assert_eq!(options, ["--window", "--within"]);
 }
