@@ -147,6 +147,8 @@ fn fixes_are_written_and_read_again() {
 
 fn are_written_and_read_again<F: OfKind>(list: &[F], fixes: Fixes, name: &str) {
     let record = trails::write(list).expect("accepted fixes are written");
+    let again = trails::write_kind(F::KIND, &fixes.any());
+    assert_eq!(again.as_ref(), Ok(&record), "{name}");
     assert_eq!(trails::fixes(&record), Ok(fixes), "{name}");
     let head = trails::check(&record).map(|head| (head.kind, head.length()));
     assert_eq!(head, Ok((F::KIND, record.len())), "{name}");
@@ -160,7 +162,12 @@ fn are_written_and_read_again<F: OfKind>(list: &[F], fixes: Fixes, name: &str) {
 fn are_turned_away<F: OfKind>(longest: usize, [none, most, beyond]: [F::Length; 3]) {
     let fix = |t, x| F::new(t, x, none);
     let rising = |n: u32| (0..n).map(|t| fix(t, none)).collect::<Vec<_>>();
-    let written = |list: &[F]| trails::write(list).map(|record| record.len());
+    let written = |list: &[F]| {
+        let record = trails::write(list);
+        let any: Vec<AnyFix> = list.iter().map(|fix| fix.any()).collect();
+        assert_eq!(trails::write_kind(F::KIND, &any), record);
+        record.map(|record| record.len())
+    };
     assert_eq!(written(&[]), Err(Refusal::BadCount));
     assert_eq!(written(&rising(4_097)), Err(Refusal::BadCount));
     assert_eq!(written(&rising(4_096)), Ok(longest));

@@ -91,11 +91,16 @@ pub(crate) mod lent {
             }
         }
 
-        pub fn push(&mut self, fix: AnyFix) {
-            self.t.push(fix.t);
-            self.x.push(fix.x);
-            self.y.push(fix.y);
-            self.silence.push(fix.silence.into());
+        /// The columns that fixes have.
+        pub fn of(fixes: impl Iterator<Item = AnyFix>) -> Columns {
+            let mut columns = Columns::default();
+            for fix in fixes {
+                columns.t.push(fix.t);
+                columns.x.push(fix.x);
+                columns.y.push(fix.y);
+                columns.silence.push(fix.silence.into());
+            }
+            columns
         }
 
         /// The fix in each row.

@@ -86,7 +86,7 @@ pub use kind::{of_every_kind, Kind};
 pub use questions::{crosses, crosses_after, near, near_after, place};
 pub use questions::{Approach, Area, Crossing, Moment, Place, Point, Window};
 pub use record::{check, claimed_count, claimed_kind, fixes, list};
-pub use record::{dearest, dearest_into, write, write_into};
+pub use record::{dearest, dearest_into, write, write_into, write_kind};
 pub use record::{Head, LONGEST, MOST_FIXES};
 pub use refusal::Refusal;
 pub use table::{Row, Table};

@@ -1,6 +1,6 @@
 //! The trail record: its head, its fixes, writing one, the dearest one, and its listing.
 
-use crate::fix::lent::Columns;
+use crate::fix::lent::{Columns, Lent};
 use crate::fix::{AnyFix, Fix, Fixes, MillimetreFix, OfKind, SilenceFix};
 use crate::interface::{self, Answer, LONGEST_TEXT};
 use crate::kind::Kind;
@@ -107,14 +107,25 @@ fn with_silence(fix: AnyFix) -> SilenceFix {
 /// Puts the record of a list of fixes at the output's start, of their kind and marked never thinned, and answers its
 /// length; later bytes of the output stay. Makes checks 3, 7, 8, 9, 20 and 15.
 pub fn write_into<F: OfKind>(list: &[F], output: &mut [u8]) -> Result<usize, Refusal> {
-    let mut columns = Columns::default();
-    list.iter().for_each(|fix| columns.push(fix.any()));
+    let columns = Columns::of(list.iter().map(|fix| fix.any()));
     written(F::write(&columns, output))
 }
 
 /// The record of a list of fixes, of their kind and marked never thinned. Makes checks 3, 7, 8, 9 and 20.
 pub fn write<F: OfKind>(list: &[F]) -> Result<Vec<u8>, Refusal> {
     alone(|output| write_into(list, output))
+}
+
+/// The record of a list of fixes, marked never thinned, for who learns its kind only from what is read. Of other kinds
+/// than 3 nothing is said of silences, whatever the fixes say. Makes checks 3, 7, 8, 9 and 20.
+pub fn write_kind(kind: Kind, list: &[AnyFix]) -> Result<Vec<u8>, Refusal> {
+    let columns = Columns::of(list.iter().copied());
+    let write = match kind {
+        Kind::Centimetres => Fix::write,
+        Kind::Millimetres => MillimetreFix::write,
+        Kind::Silences => SilenceFix::write,
+    };
+    alone(|output| written(write(&columns, output)))
 }
 
 /// Puts the record of the dearest trail of n fixes at the output's start, in centimetres and marked never thinned, and
