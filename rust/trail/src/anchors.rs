@@ -2,10 +2,13 @@
 
 use std::ffi::OsStr;
 
-use trails::{AnchorState, Anchored, Kind, Reading, Refusal};
+use trails::{AnchorState, Anchored, Kind, Reading, Refusal, Unit};
 
+use crate::clock::Clock;
 use crate::failure::{Failure, Refused, Spot, Status};
-use crate::numbers::{float, whole, Range};
+use crate::json::Json;
+use crate::numbers::float;
+use crate::texts::{Line, Text};
 use crate::{lines, output, words};
 
 /// What an anchor has sent at a second.
@@ -14,13 +17,13 @@ struct Sent {
     reading: Reading,
 }
 
-fn sent(fields: &[&str]) -> Result<Sent, String> {
+fn sent(clock: Clock, fields: &[&str]) -> Result<Sent, String> {
     let [time, form, one, other] = *fields else {
         let entry = "a reading is 'time absolute X Y' or 'time step DX DY'";
         return Err(lines::miscounted(entry, fields));
     };
     let value = |word: &str, name: &'static str| float(word).map_err(lines::named(name));
-    let t = whole(time, Range::Seconds).map_err(lines::named("time"))?;
+    let t = clock.second(time).map_err(lines::named("time"))?;
     let reading = match form {
         "absolute" => Reading::Absolute {
             x: value(one, "X")?,
@@ -38,19 +41,10 @@ fn sent(fields: &[&str]) -> Result<Sent, String> {
     Ok(Sent { t, reading })
 }
 
-/// Where an anchor had the cart at a second, in whole centimetres.
-pub struct Seen {
-    pub t: u32,
-    pub x: i16,
-    pub y: i16,
-}
-
-/// What was read of a text.
-pub struct Read {
-    /// each accepted reading with the number of its line
-    pub seen: Vec<(usize, Seen)>,
-    /// how many readings there were
-    pub readings: usize,
+/// What became of the readings of a text.
+pub struct Readings {
+    count: usize,
+    accepted: usize,
     /// the greatest status of one
     pub worst: Status,
 }
@@ -69,40 +63,56 @@ fn refused(from: &OsStr, line: usize, refusal: Refusal) -> Failure {
 }
 
 /// Takes the readings of a text one after the other. Each that is refused is told of and leaves the state as it was, and
-/// those after it are taken. A bad line ends it.
-pub fn read(from: &OsStr, text: &[u8], json: bool) -> Result<Read, Failure> {
-    let all = lines::entries(from, text, sent)?;
+/// those after it are taken. A bad line ends it. The fixes say nothing of silences.
+pub fn read(
+    from: &OsStr,
+    text: &[u8],
+    clock: Clock,
+    json: bool,
+) -> Result<(Text, Readings), Failure> {
+    let all = lines::entries(from, text, |fields| sent(clock, fields))?;
+    let count = all.len();
     let mut state = AnchorState::default();
-    let mut read = Read {
-        seen: Vec::new(),
-        readings: all.len(),
-        worst: Status::Done,
-    };
+    let mut fixes = Vec::new();
+    let mut worst = Status::Done;
     for (line, Sent { t, reading }) in all {
         match trails::read_anchor(state, reading) {
             Ok(Anchored { state: next, x, y }) => {
                 state = next;
-                read.seen.push((line, Seen { t, x, y }));
+                fixes.push((line, Line::new(t, x, y)));
             }
-            Err(refusal) => {
-                let told = output::report(&refused(from, line, refusal), json);
-                read.worst = read.worst.max(told);
-            }
+            Err(refusal) => worst = worst.max(output::report(&refused(from, line, refusal), json)),
         }
     }
-    Ok(read)
+    let accepted = fixes.len();
+    let readings = Readings {
+        count,
+        accepted,
+        worst,
+    };
+    let text = Text {
+        unit: Unit::Centimetres,
+        lines: fixes,
+    };
+    Ok((text, readings))
 }
 
-impl Read {
-    /// How many readings were refused.
-    pub fn turned_away(&self) -> usize {
-        self.readings.saturating_sub(self.seen.len())
+impl Readings {
+    fn turned_away(&self) -> usize {
+        self.count.saturating_sub(self.accepted)
     }
 
     /// What people are told at the end.
-    pub fn summary(&self, from: &OsStr) -> String {
-        let (file, readings) = (words::shown(from), self.readings);
-        let (refused, fixes) = (self.turned_away(), self.seen.len());
-        format!("{file}: readings {readings}, refused {refused}, fixes {fixes}")
+    pub fn text(&self) -> String {
+        let (readings, refused, fixes) = (self.count, self.turned_away(), self.accepted);
+        format!("readings {readings}, refused {refused}, fixes {fixes}")
+    }
+
+    /// What programs are told.
+    pub fn fields(&self) -> [(&'static str, Json); 2] {
+        [
+            ("readings", Json::Whole(self.count as i128)),
+            ("turned_away", Json::Whole(self.turned_away() as i128)),
+        ]
     }
 }

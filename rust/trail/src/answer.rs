@@ -5,7 +5,7 @@ use std::ffi::OsString;
 use crate::arguments::Arguments;
 use crate::failure::{Failure, Status};
 use crate::json::Json;
-use crate::many::{self, Counted};
+use crate::many::{self, named, Summary};
 use crate::trail::Trail;
 use crate::{output, words};
 
@@ -92,18 +92,21 @@ pub fn of_each(
     let (clock, json) = (arguments.clock()?, arguments.has("--json"));
     arguments.can_read(names.iter().map(OsString::as_os_str))?;
     let mut answered = Vec::new();
-    let mut ends = many::each(names, json, |name| {
+    let ends = many::each(names, json, |name| {
         let trail = Trail::read(name, clock)?;
         let answer = ask(&trail)?;
         answered.push((name.to_os_string(), answer.sort));
         answer.print(&trail, names.len() > 1, json)
     })?;
-    let count = |sort: &Sort| {
+    let of_sort = |sort: &Sort| -> Vec<OsString> {
         let same = answered.iter().filter(|(_, answer)| answer == sort);
-        (sort.name(), same.count())
+        same.map(|(name, _)| name.clone()).collect()
     };
-    let counts: Vec<Counted> = sorts.iter().map(count).collect();
-    let yes = answered.into_iter().filter(|(_, sort)| *sort == Sort::Yes);
-    ends.yes = yes.map(|(name, _)| name).collect();
-    ends.tell(&counts, json)
+    let count = |sort: &Sort| (sort.name(), of_sort(sort).len());
+    let summary = Summary {
+        counts: sorts.iter().map(count).collect(),
+        more: named("yes", &of_sort(&Sort::Yes)),
+        fields: Vec::new(),
+    };
+    ends.tell(summary, json)
 }

@@ -141,10 +141,16 @@ impl Arguments {
         if to == "-" && self.has("--json") {
             return Err(self.wrong("--json and '-o -' both want the standard output"));
         }
-        if files::is_printed_to(to) {
-            return Err(self.wrong("-o and the standard output are one file"));
-        }
+        self.not_printed_to(to)?;
         Ok(to)
+    }
+
+    /// Wrong usage if an output is the file that answers are printed to.
+    pub fn not_printed_to(&self, to: &OsStr) -> Result<(), Failure> {
+        match files::is_printed_to(to) {
+            true => Err(self.wrong("-o and the standard output are one file")),
+            false => Ok(()),
+        }
     }
 
     /// The values that an option has, if it is given, each read so.

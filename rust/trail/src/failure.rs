@@ -50,6 +50,8 @@ impl fmt::Display for Spot {
 pub enum Fact {
     /// So many fixes.
     Count(usize),
+    /// So many fixes that several trails can have.
+    Splittable(usize),
     /// The trail's first second and its last.
     Seconds(Clock, u32, u32),
     /// The seconds at which a silence begins and ends.
@@ -67,7 +69,9 @@ impl Fact {
     /// What programs are told of it.
     fn fields(self) -> Vec<(&'static str, Json)> {
         match self {
-            Fact::Count(count) => vec![("count", Json::Whole(count as i128))],
+            Fact::Count(count) | Fact::Splittable(count) => {
+                vec![("count", Json::Whole(count as i128))]
+            }
             Fact::Seconds(_, first, last) => vec![
                 ("first", Json::Whole(first.into())),
                 ("last", Json::Whole(last.into())),
@@ -85,6 +89,10 @@ impl fmt::Display for Fact {
     fn fmt(&self, to: &mut fmt::Formatter) -> fmt::Result {
         match self {
             Fact::Count(count) => write!(to, "The count is {count}."),
+            Fact::Splittable(count) => {
+                let count = Fact::Count(*count);
+                write!(to, "{count} --split makes several trails of them.")
+            }
             Fact::Seconds(clock, first, last) => {
                 write!(to, "The trail has {}.", clock.span(*first, *last))
             }

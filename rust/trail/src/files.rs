@@ -10,8 +10,8 @@ use trails::LONGEST;
 
 use crate::failure::Failure;
 
-/// A text has at most 4,096 fixes. One longer than this is a mistake.
-const LONGEST_TEXT: u64 = 8 << 20;
+/// A day has 86,400 seconds, and in this many bytes a line of 194 for each. A text that is longer is a mistake.
+const LONGEST_TEXT: u64 = 16 << 20;
 
 pub fn failed(name: &OsStr) -> impl FnOnce(io::Error) -> Failure + '_ {
     move |error| Failure::File(name.to_os_string(), error.to_string())
@@ -60,7 +60,10 @@ pub fn read_text(name: &OsStr) -> Result<Vec<u8>, Failure> {
     // one byte more than the most tells a text that has more
     let read = open(name).and_then(|file| file.take(LONGEST_TEXT + 1).read_to_end(&mut text));
     let read = read.and_then(|length| match length as u64 > LONGEST_TEXT {
-        true => Err(io::Error::other("it has more than 8 MiB")),
+        true => {
+            let most = LONGEST_TEXT >> 20;
+            Err(io::Error::other(format!("it has more than {most} MiB")))
+        }
         false => Ok(text),
     });
     read.map_err(failed(name))
@@ -88,9 +91,25 @@ fn output(name: &OsStr) -> io::Result<Metadata> {
     }
 }
 
+/// What the system says of the inputs of a run.
+pub struct Inputs(Vec<Metadata>);
+
+impl Inputs {
+    pub fn of<'a>(names: impl IntoIterator<Item = &'a OsStr>) -> Inputs {
+        let names = names.into_iter();
+        Inputs(names.filter_map(|name| input(name).ok()).collect())
+    }
+
+    /// Whether an output is one of them, by whatever names.
+    pub fn have(&self, to: &OsStr) -> bool {
+        let mut inputs = self.0.iter();
+        output(to).is_ok_and(|written| inputs.any(|read| are_one(read, &written)))
+    }
+}
+
 /// Whether an input and an output are one file, by whatever names.
 pub fn is_read(name: &OsStr, to: &OsStr) -> bool {
-    input(name).is_ok_and(|read| output(to).is_ok_and(|written| are_one(&read, &written)))
+    Inputs::of([name]).have(to)
 }
 
 /// Whether an output is the file that answers are printed to: it would take its place, and they would be lost.

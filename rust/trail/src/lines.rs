@@ -4,18 +4,25 @@ use std::ffi::OsStr;
 
 use crate::failure::{Failure, Spot};
 
+/// A field without the quotes that some tools put around it.
+fn unquoted(field: &str) -> &str {
+    let inner = field.strip_prefix('"');
+    let inner = inner.and_then(|inner| inner.strip_suffix('"'));
+    inner.unwrap_or(field).trim()
+}
+
 /// The fields of a line: none, if it is empty or a comment.
 fn fields(line: &str) -> Vec<&str> {
     let line = line.split('#').next().unwrap_or(line).trim();
     match line.contains(',') {
-        true => line.split(',').map(str::trim).collect(),
-        false => line.split_whitespace().collect(),
+        true => line.split(',').map(str::trim).map(unquoted).collect(),
+        false => line.split_whitespace().map(unquoted).collect(),
     }
 }
 
 fn entry<T>(
     line: &[u8],
-    read: &impl Fn(&[&str]) -> Result<T, String>,
+    read: &mut impl FnMut(&[&str]) -> Result<T, String>,
 ) -> Result<Option<T>, String> {
     let line = std::str::from_utf8(line).map_err(|_| "it isn't text in UTF-8")?;
     let fields = fields(line);
@@ -29,7 +36,7 @@ fn entry<T>(
 pub fn entries<T>(
     name: &OsStr,
     text: &[u8],
-    read: impl Fn(&[&str]) -> Result<T, String>,
+    mut read: impl FnMut(&[&str]) -> Result<T, String>,
 ) -> Result<Vec<(usize, T)>, Failure> {
     // spreadsheets put this mark before the first line
     let text = text.strip_prefix("\u{feff}".as_bytes()).unwrap_or(text);
@@ -42,7 +49,7 @@ pub fn entries<T>(
             };
             Failure::Line(spot, what)
         };
-        let found = entry(line, &read).map_err(bad)?;
+        let found = entry(line, &mut read).map_err(bad)?;
         entries.extend(found.map(|found| (number, found)));
     }
     Ok(entries)
@@ -71,5 +78,7 @@ mod tests {
         assert_eq!(fields("1, -2,3\r"), ["1", "-2", "3"]);
         assert_eq!(fields("1,,3"), ["1", "", "3"]);
         assert_eq!(fields("1, 2 3"), ["1", "2 3"]);
+        assert_eq!(fields("\"1\", \"-2\" ,\"\""), ["1", "-2", ""]);
+        assert_eq!(fields("\"1\" 2 \""), ["1", "2", "\""]);
     }
 }

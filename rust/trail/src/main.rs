@@ -11,6 +11,7 @@ mod arguments;
 mod beside;
 mod check;
 mod clock;
+mod columns;
 mod completion;
 mod cross;
 mod dearest;
@@ -27,15 +28,19 @@ mod near;
 mod numbers;
 mod options;
 mod output;
+mod outputs;
 mod place;
 mod plot;
 mod replay;
+mod split;
 mod store;
 mod table;
+mod texts;
 mod trail;
 mod visits;
 mod words;
 mod write;
+mod written;
 mod yes_or_no;
 
 use std::ffi::{OsStr, OsString};
@@ -66,7 +71,7 @@ usage: trail COMMAND ARGUMENTS
 
   list     print a trail's fixes
   check    say whether files begin with a trail
-  write    make a trail of a text with fixes, or with what anchors sent
+  write    make trails of texts with fixes, or with what anchors sent
   dearest  make the trail that costs most to age, for sizing a controller
   age      thin trails, by a tolerance or by days
   table    check a hall's own table of days and tolerances, and print it

@@ -9,21 +9,34 @@ use crate::{output, words};
 /// What became of many files.
 pub struct Ends {
     files: usize,
-    /// those that answered yes, where that is asked
-    pub yes: Vec<OsString>,
     refused: Vec<OsString>,
     failed: Vec<OsString>,
     pub worst: Status,
 }
 
-/// A number of files, or of what they have, and the word for it.
-pub type Counted = (&'static str, usize);
+/// What is told of many files besides those that were refused or failed.
+pub struct Summary {
+    /// how many of each sort there are
+    pub counts: Vec<(&'static str, usize)>,
+    /// for people, behind the counts
+    pub more: String,
+    /// for programs, at the end
+    pub fields: Vec<(&'static str, Json)>,
+}
+
+/// Some files by their names, for people: behind what else is said, and nothing if there are none.
+pub fn named(what: &str, names: &[OsString]) -> String {
+    let shown: Vec<String> = names.iter().map(|name| words::shown(name)).collect();
+    match shown.is_empty() {
+        true => String::new(),
+        false => format!("; {what}: {}", shown.join(", ")),
+    }
+}
 
 impl Ends {
     pub fn new() -> Ends {
         Ends {
             files: 0,
-            yes: Vec::new(),
             refused: Vec::new(),
             failed: Vec::new(),
             worst: Status::Done,
@@ -46,48 +59,36 @@ impl Ends {
         None
     }
 
-    /// What people are told of all files: how many there were of each sort, and which said yes, were refused or failed.
-    pub fn text(&self, counts: &[Counted]) -> String {
+    fn text(&self, summary: &Summary) -> String {
         let ends = [
             ("refused", self.refused.len()),
             ("failed", self.failed.len()),
         ];
-        let counts = counts.iter().copied().chain(ends);
+        let counts = summary.counts.iter().copied().chain(ends);
         let counts: Vec<String> = counts.map(|(what, n)| format!("{n} {what}")).collect();
-        let named = |what: &str, names: &[OsString]| {
-            let shown: Vec<String> = names.iter().map(|name| words::shown(name)).collect();
-            match shown.is_empty() {
-                true => String::new(),
-                false => format!("; {what}: {}", shown.join(", ")),
-            }
-        };
-        let yes = named("yes", &self.yes);
+        let (files, counts, more) = (self.files, counts.join(", "), &summary.more);
         let refused = named("refused", &self.refused);
         let failed = named("failed", &self.failed);
-        format!(
-            "{} files: {}{yes}{refused}{failed}",
-            self.files,
-            counts.join(", ")
-        )
+        format!("{files} files: {counts}{more}{refused}{failed}")
     }
 
-    /// What programs are told of all files.
-    pub fn fields(&self, counts: &[Counted]) -> Vec<(&'static str, Json)> {
-        let whole = |(what, n): &Counted| (*what, Json::Whole(*n as i128));
+    fn fields(&self, summary: Summary) -> Json {
         let names = |names: &[OsString]| Json::List(names.iter().map(Json::text).collect());
-        let mut fields = vec![whole(&("files", self.files))];
-        fields.extend(counts.iter().map(whole));
-        fields.push(("refused", names(&self.refused)));
-        fields.push(("failed", names(&self.failed)));
-        fields
+        let counts = [("files", self.files)].into_iter().chain(summary.counts);
+        let counts = counts.map(|(what, n)| (what, Json::Whole(n as i128)));
+        let ends = [
+            ("refused", names(&self.refused)),
+            ("failed", names(&self.failed)),
+        ];
+        Json::Object(counts.chain(ends).chain(summary.fields).collect())
     }
 
     /// Tells of all files, if there are several.
-    pub fn tell(&self, counts: &[Counted], json: bool) -> Result<Status, Failure> {
+    pub fn tell(&self, summary: Summary, json: bool) -> Result<Status, Failure> {
         if self.files > 1 {
-            output::message(&self.text(counts));
+            output::message(&self.text(&summary));
             if json {
-                output::print_json(Json::Object(self.fields(counts)))?;
+                output::print_json(self.fields(summary))?;
             }
         }
         Ok(self.worst)

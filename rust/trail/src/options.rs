@@ -27,10 +27,14 @@ const fn choice(
 
 const EDGES: &[&str] = &["X0", "X1", "Y0", "Y1"];
 
-pub static OPTIONS: [Choice; 17] = [
+pub static OPTIONS: &[Choice] = &[
     choice("--json", &[], None),
     choice("--epoch", &["TIME"], Some(Range::Seconds)),
+    choice("--csv", &[], None),
+    choice("--geojson", &[], None),
+    choice("--dry-run", &[], None),
     choice("--force", &[], None),
+    choice("--split", &[], None),
     choice("--millimetres", &[], None),
     choice("--anchors", &[], None),
     choice("--silence-after", &["SECONDS"], Some(Range::Seconds)),

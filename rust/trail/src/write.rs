@@ -1,18 +1,20 @@
-//! `trail write`: makes a trail of a text with fixes, or with what anchors have sent.
+//! `trail write`: makes trails of texts with fixes, or with what anchors have sent.
 
 use std::ffi::{OsStr, OsString};
-use std::str::FromStr;
+use std::path::Path;
 
-use trails::{AnyFix, Fix, Kind, MillimetreFix, OfKind, Refusal, SilenceFix, Unit};
+use trails::Unit;
 
-use crate::anchors::{self, Seen};
+use crate::anchors;
 use crate::arguments::{Arguments, Command};
-use crate::failure::{Fact, Failure, Refused, Spot, Status};
-use crate::json::Json;
-use crate::made::Made;
-use crate::numbers::{whole, Range};
+use crate::failure::{Failure, Status};
+use crate::files::{self, Inputs};
+use crate::many::{Ends, Summary};
+use crate::outputs::{keep_apart, Outputs};
+use crate::split;
 use crate::store::store;
-use crate::{files, lines, output, words};
+use crate::texts::{self, Said, NOT_BOTH};
+use crate::written::{Sums, Written};
 
 pub const COMMAND: Command = Command {
     name: "write",
@@ -20,34 +22,43 @@ pub const COMMAND: Command = Command {
     options: &[
         "-o",
         "--force",
+        "--split",
         "--millimetres",
         "--anchors",
         "--silence-after",
+        "--epoch",
         "--json",
     ],
     run,
 };
 
 const HELP: &str = "\
-usage: trail write [--millimetres | --silence-after SECONDS] [--json] [--force]
-                   FIXES -o FILE
-       trail write --anchors [--silence-after SECONDS] [--json] [--force]
-                   READINGS -o FILE
+usage: trail write [--millimetres | --silence-after SECONDS] [--epoch TIME]
+                   [--split] [--json] [--force] FIXES... -o OUT
+       trail write --anchors [--silence-after SECONDS] [--epoch TIME]
+                   [--split] [--json] [--force] READINGS... -o OUT
 
 Makes a trail, marked never thinned, of a text that has a fix in each line:
 
   time x y              or      time,x,y
   time x y silence      or      time,x,y,silence
 
-in whole seconds and centimetres, -16,000 to 16,000. Empty lines, and comments
-from '#' to a line's end, are skipped. A bad line is named with its number, and
-then nothing is stored; a FILE that is there already is replaced only by a
-whole new one.
+in whole seconds, or times of the clock, and centimetres, -16,000 to 16,000.
+Empty lines, and comments from '#' to a line's end, are skipped. A bad line is
+named with its number, and then nothing is stored; a file that is there already
+is replaced only by a whole new one.
 
 Where a fix has 'silence' or '1' in the fourth place, the cart dropped out after
 it: until the next fix nobody knows where it was. '-', '0' or nothing there says
 that it didn't. If any line has a fourth place, or --silence-after is given, the
 trail is of the kind that can have silences.
+
+A text may also have columns, in any order, under a first line that names them:
+time (or t), x, y and maybe silence. x_cm and y_cm, or x_mm and y_mm, name the
+unit too. There may be no others, as in what 'trail list --csv' prints of a
+trail that was never thinned. Or a text is what 'trail list' prints of such a
+trail, whole; that names no unit, and if no fix says 'silence' its trail can
+have none unless --silence-after is given.
 
 With --anchors the text has what a ceiling anchor sent, a reading in each line:
 
@@ -62,6 +73,17 @@ place rounded to whole centimetres, halves away from 0. One that is refused, by
 go on, the trail is stored, and the exit status is 1. At the end it says how
 many readings, refused ones and fixes there were.
 
+OUT is the trail's file or, if it is a folder or ends with '/', the folder that
+it goes to: that of 'cart.txt' is 'cart.trail' there. Several texts need a
+folder. It is made if it isn't there. Goes on past a bad or refused text, and at
+the end says how many there were.
+
+  --split        make as many trails as the fixes need, of up to 4,096 fixes
+                 and 65,535 seconds: 'cart-001.trail', 'cart-002.trail' and so
+                 on for 'cart.trail'. Each begins with the last fix of the one
+                 before, so that no leg is lost; a silence after that fix is in
+                 the trail that begins with it. All are made before the first
+                 is stored
   --silence-after SECONDS
                  a silence is also where two neighbouring fixes are further
                  apart than so many seconds
@@ -70,238 +92,159 @@ many readings, refused ones and fixes there were.
                  too
   --anchors      the text has readings; they are in centimetres, so there are
                  no millimetres then
-  -o FILE        where the trail goes; '-' is the standard output, and what is
+  --epoch TIME   when second 0 was, for times of the clock; see 'trail help'
+  -o OUT         where the trails go; '-' is the standard output, and what is
                  said at the end is then on standard error
-  --force        let FILE be the text itself, which the trail then replaces
-  --json         print one line: {\"file\", \"unit\", \"count\", \"silences\",
-                 \"bytes\"}, with null for the silences if it can have none;
-                 with --anchors also \"readings\" and \"turned_away\", how many
-                 were refused, and before it a line for each of these: {\"file\",
-                 \"line\", \"refused\", \"sentence\"}
+  --force        let OUT be the one text itself, which the trail then replaces
+  --json         print one line for each trail: {\"file\", \"unit\", \"count\",
+                 \"silences\", \"bytes\"}, with null for the silences if it can
+                 have none; with --anchors also \"readings\" and
+                 \"turned_away\", how many were refused, with a text's last
+                 trail, and before it a line for each of these: {\"file\",
+                 \"line\", \"refused\", \"sentence\"}. Of several texts the last
+                 line is {\"files\", \"written\", \"refused\": [names], \"failed\":
+                 [names], \"trails\", \"count\", \"bytes\"}, in which a fix that
+                 two trails share counts once
 ";
 
-/// A line of the text, with lengths as its unit has them.
-struct Line<L> {
-    t: u32,
-    x: L,
-    y: L,
-    /// what stands in the fourth place, if there is one
-    silence: Option<bool>,
-}
-
-fn line<L: FromStr>(unit: Unit, fields: &[&str]) -> Result<Line<L>, String> {
-    let (t, x, y, fourth) = match *fields {
-        [t, x, y] => (t, x, y, None),
-        [t, x, y, fourth] => (t, x, y, Some(fourth)),
-        _ => {
-            let entry = "a fix is 'time x y' or 'time x y silence'";
-            return Err(lines::miscounted(entry, fields));
-        }
-    };
-    let places = Range::Places(Some(unit));
-    Ok(Line {
-        t: whole(t, Range::Seconds).map_err(lines::named("time"))?,
-        x: whole(x, places).map_err(lines::named("x"))?,
-        y: whole(y, places).map_err(lines::named("y"))?,
-        silence: fourth
-            .map(silence)
-            .transpose()
-            .map_err(lines::named("silence"))?,
-    })
-}
-
-fn silence(word: &str) -> Result<bool, String> {
-    match word {
-        "silence" | "1" => Ok(true),
-        "-" | "0" | "" => Ok(false),
-        other => {
-            let other = words::quoted(other);
-            Err(format!("{other} isn't 'silence', '1', '-' or '0'"))
-        }
-    }
-}
-
-/// The line of the fix that a refusal is about: the first of which its sentence holds.
-fn refused_line(kind: Kind, refusal: Refusal, entries: &[(usize, AnyFix)]) -> Option<usize> {
-    let most = kind.unit().limits().place;
-    let outside = |c: i32| !(-most..=most).contains(&c);
-    let (_, first) = entries.first()?;
-    let found = match refusal {
-        Refusal::Misplaced => {
-            let mut fixes = entries.iter();
-            fixes.find(|(_, fix)| outside(fix.x) || outside(fix.y))
-        }
-        Refusal::Unordered => {
-            let mut pairs = entries.iter().zip(entries.iter().skip(1));
-            let pair = pairs.find(|((_, one), (_, next))| next.t <= one.t);
-            pair.map(|(_, next)| next)
-        }
-        Refusal::LongSpan => {
-            let late = |fix: &AnyFix| fix.t.abs_diff(first.t) > 65_535;
-            entries.iter().find(|(_, fix)| late(fix))
-        }
-        // no text says a byte that is neither 0 nor 1
-        Refusal::BadSilence => entries.last(),
-        _ => None,
-    };
-    found.map(|(line, _)| *line)
-}
-
-/// The record of fixes, each with the number of its line.
-fn made<F: OfKind>(from: &OsStr, entries: &[(usize, F)]) -> Result<Made, Failure> {
-    let fixes: Vec<F> = entries.iter().map(|(_, fix)| *fix).collect();
-    let entries: Vec<(usize, AnyFix)> = entries.iter().map(|(n, fix)| (*n, fix.any())).collect();
-    let record = trails::write(&fixes).map_err(|refusal| {
-        Failure::Refused(Refused {
-            spot: Spot {
-                line: refused_line(F::KIND, refusal, &entries),
-                ..Spot::file(from)
-            },
-            refusal,
-            kind: F::KIND,
-            fact: Fact::count(refusal, fixes.len()),
-        })
-    })?;
-    Ok(Made {
-        record,
-        kind: F::KIND,
-        count: fixes.len(),
-        silences: entries.iter().filter(|(_, fix)| fix.silence).count(),
-    })
-}
-
-/// Why a text and its options may not fit each other.
-const NOT_BOTH: &str = "no kind of trail has millimetres and silences";
-
-fn in_millimetres(from: &OsStr, text: &[u8]) -> Result<Made, Failure> {
-    let fix = |fields: &[&str]| {
-        let Line { t, x, y, silence } = line(Unit::Millimetres, fields)?;
-        match silence {
-            None => Ok(MillimetreFix { t, x, y }),
-            Some(_) => Err(NOT_BOTH.to_string()),
-        }
-    };
-    made(from, &lines::entries(from, text, fix)?)
-}
-
-/// A line in centimetres, with its number.
-type InCentimetres = (usize, Line<i16>);
-
-/// With silences if a line says one way or the other, or if they are where more than so many seconds pass.
-fn in_centimetres(
-    from: &OsStr,
-    lines: Vec<InCentimetres>,
-    after: Option<u32>,
-) -> Result<Made, Failure> {
-    let said = lines.iter().any(|(_, line)| line.silence.is_some());
-    if !said && after.is_none() {
-        let fixes = lines.into_iter();
-        let fixes = fixes.map(|(number, Line { t, x, y, .. })| (number, Fix { t, x, y }));
-        return made(from, &fixes.collect::<Vec<_>>());
-    }
-    let fix = |(number, Line { t, x, y, silence })| {
-        let silence = silence == Some(true);
-        (number, SilenceFix { t, x, y, silence })
-    };
-    let mut fixes: Vec<(usize, SilenceFix)> = lines.into_iter().map(fix).collect();
-    if let Some(after) = after {
-        fall_silent(&mut fixes, after);
-    }
-    made(from, &fixes)
-}
-
-/// Sets a silence wherever the next fix is more than so many seconds later.
-fn fall_silent(fixes: &mut [(usize, SilenceFix)], after: u32) {
-    let later: Vec<u32> = fixes.iter().skip(1).map(|(_, fix)| fix.t).collect();
-    for ((_, fix), next) in fixes.iter_mut().zip(later) {
-        fix.silence |= next.saturating_sub(fix.t) > after;
-    }
-}
-
-/// The fixes that anchors have seen, as lines that say nothing of silences.
-fn lines_of(seen: &[(usize, Seen)]) -> Vec<InCentimetres> {
-    let line = |&(number, Seen { t, x, y }): &(usize, Seen)| {
-        let silence = None;
-        (number, Line { t, x, y, silence })
-    };
-    seen.iter().map(line).collect()
-}
-
-/// What is to be read, and how.
+/// What is asked of all texts.
 struct Asked<'a> {
-    from: &'a OsStr,
-    to: &'a OsStr,
-    fine: bool,
+    arguments: &'a Arguments,
+    texts: &'a [OsString],
+    /// the files that no output may be
+    inputs: Inputs,
+    outputs: Outputs,
+    said: Said,
     anchors: bool,
-    after: Option<u32>,
+    split: bool,
     json: bool,
+}
+
+/// The name of a text's trail in a folder.
+fn trail_name(text: &Path) -> Option<OsString> {
+    let mut name = text.file_stem()?.to_os_string();
+    name.push(".trail");
+    Some(name)
 }
 
 impl Asked<'_> {
     fn of(arguments: &Arguments) -> Result<Asked<'_>, Failure> {
-        let [from]: &[OsString; 1] = arguments.exactly("one text with fixes or readings")?;
-        let to = arguments.output()?;
-        if files::is_read(from, to) && !arguments.has("--force") {
-            return Err(arguments.wrong("-o names the text itself; --force replaces it"));
-        }
+        let texts = arguments.several("one text with fixes or readings, or more")?;
+        let may_be_output = texts.len() == 1 && arguments.has("--force");
+        let inputs = texts.iter().filter(|_| !may_be_output);
         let asked = Asked {
-            from,
-            to,
-            fine: arguments.has("--millimetres"),
+            arguments,
+            texts,
+            inputs: Inputs::of(inputs.map(OsString::as_os_str)),
+            outputs: Outputs::of(arguments, texts, trail_name)?,
+            said: Said {
+                clock: arguments.clock()?,
+                unit: match arguments.has("--millimetres") {
+                    true => Unit::Millimetres,
+                    false => Unit::Centimetres,
+                },
+                after: arguments.duration("--silence-after")?,
+            },
             anchors: arguments.has("--anchors"),
-            after: arguments.duration("--silence-after")?,
+            split: arguments.has("--split"),
             json: arguments.has("--json"),
         };
-        if asked.fine && asked.after.is_some() {
-            let what = format!("--millimetres and --silence-after: {NOT_BOTH}");
-            return Err(arguments.wrong(&what));
-        }
-        if asked.fine && asked.anchors {
-            let what = "--millimetres and --anchors: anchors are in centimetres";
-            return Err(arguments.wrong(what));
+        asked.fits_itself()?;
+        // the outputs of a split are known once it is made
+        if !asked.split {
+            asked.keep_apart(&asked.outputs.names)?;
         }
         Ok(asked)
+    }
+
+    fn fits_itself(&self) -> Result<(), Failure> {
+        let fine = self.said.unit == Unit::Millimetres;
+        let nameless = |to: &OsString| to == "-" || Path::new(to).file_name().is_none();
+        let what = if fine && self.said.after.is_some() {
+            format!("--millimetres and --silence-after: {NOT_BOTH}")
+        } else if fine && self.anchors {
+            "--millimetres and --anchors: anchors are in centimetres".into()
+        } else if self.split && self.outputs.names.iter().any(nameless) {
+            "--split makes several files, and -o gives them no name".into()
+        } else {
+            return Ok(());
+        };
+        Err(self.arguments.wrong(&what))
+    }
+
+    fn keep_apart(&self, outputs: &[OsString]) -> Result<(), Failure> {
+        let what = match self.texts {
+            [_] => "-o names the text itself; --force replaces it",
+            _ => "an output is one of the texts",
+        };
+        keep_apart(self.arguments, outputs, &self.inputs, what)
+    }
+
+    fn make<'t>(&self, from: &'t OsStr, to: &'t OsStr) -> Result<Written<'t>, Failure> {
+        let text = files::read_text(from)?;
+        let (text, readings) = match self.anchors {
+            true => {
+                let read = anchors::read(from, &text, self.said.clock, self.json)?;
+                (read.0, Some(read.1))
+            }
+            false => (texts::read(from, &text, self.said)?, None),
+        };
+        let (kind, fixes) = text.fixes(self.said.after);
+        let trails = match self.split {
+            true => {
+                let made = split::split(from, kind, &fixes)?;
+                let name = |number| split::named(to, number);
+                (1..).map(name).zip(made).collect()
+            }
+            false => vec![(to.to_os_string(), split::whole(from, kind, &fixes)?)],
+        };
+        Ok(Written {
+            from,
+            to,
+            fixes: fixes.len(),
+            trails,
+            readings,
+        })
+    }
+
+    /// Makes all trails of a text, and then stores them.
+    fn write<'t>(&self, from: &'t OsStr, to: &'t OsStr) -> Result<Written<'t>, Failure> {
+        let written = self.make(from, to)?;
+        self.store(&written)?;
+        Ok(written)
+    }
+
+    fn store(&self, written: &Written) -> Result<(), Failure> {
+        if self.split {
+            let names: Vec<OsString> = written.trails.iter().map(|one| one.0.clone()).collect();
+            self.keep_apart(&names)?;
+        }
+        self.outputs.make_folder()?;
+        let mut trails = written.trails.iter();
+        trails.try_for_each(|(name, made)| {
+            let record = made.record.as_slice();
+            store(name, &[written.from], record)
+        })
     }
 }
 
 fn run(arguments: &Arguments) -> Result<Status, Failure> {
     let asked = Asked::of(arguments)?;
-    let text = files::read_text(asked.from)?;
-    match asked.anchors {
-        true => run_anchors(&asked, &text),
-        false => run_fixes(&asked, &text),
-    }
-}
-
-fn run_fixes(asked: &Asked, text: &[u8]) -> Result<Status, Failure> {
-    let from = asked.from;
-    let line = |fields: &[&str]| line(Unit::Centimetres, fields);
-    let made = match asked.fine {
-        true => in_millimetres(from, text)?,
-        false => in_centimetres(from, lines::entries(from, text, line)?, asked.after)?,
-    };
-    made.store(asked.to, &[from], asked.json)
-}
-
-/// The trail is stored also if readings were refused: those that were accepted say as much as if they had been alone.
-fn run_anchors(asked: &Asked, text: &[u8]) -> Result<Status, Failure> {
-    let from = asked.from;
-    let read = anchors::read(from, text, asked.json)?;
-    let made = in_centimetres(from, lines_of(&read.seen), asked.after)?;
-    store(asked.to, &[from], made.record.as_slice())?;
-    let summary = read.summary(from);
-    match (asked.json, asked.to == "-") {
-        (true, _) => {
-            let mut fields = made.fields(asked.to);
-            fields.extend([
-                ("readings", Json::Whole(read.readings as i128)),
-                ("turned_away", Json::Whole(read.turned_away() as i128)),
-            ]);
-            output::print_json(Json::Object(fields))?;
+    let (mut ends, mut sums) = (Ends::new(), Sums::default());
+    let mut heard = Ok(());
+    for (from, to) in asked.texts.iter().zip(&asked.outputs.names) {
+        let written = asked.write(from, to);
+        if let Some(written) = ends.take(from, written, asked.json) {
+            sums.add(&written);
+            ends.worst = ends.worst.max(written.worst());
+            // it is stored whether or not that is heard
+            heard = heard.and(written.tell(asked.split, asked.json));
         }
-        // the standard output has the trail
-        (false, true) => output::message(&summary),
-        (false, false) => output::print(&format!("{summary}\n"))?,
     }
-    Ok(read.worst)
+    let summary = Summary {
+        counts: vec![("written", sums.texts)],
+        more: sums.text(),
+        fields: sums.fields(),
+    };
+    heard.and(ends.tell(summary, asked.json))
 }

@@ -2,7 +2,7 @@
 
 use trails_tests::programs::project;
 
-use crate::folder::{record, silent_record, Folder, Ran};
+use crate::folder::{record, silent_record, Folder};
 
 /// Two places with steps after them, and readings of each refusal between.
 const TEXT: &str = "# an anchor over belt 4\n\
@@ -46,17 +46,13 @@ fn messages(file: &str) -> String {
     REFUSED.map(message).concat()
 }
 
-fn ended(ran: &Ran) -> (Option<i32>, &str, &str) {
-    (ran.status, ran.text(), ran.err.as_str())
-}
-
 #[test]
 fn accepted_readings_are_fixes_and_refused_ones_are_named() {
     let folder = Folder::new();
     folder.put("sent", TEXT);
     let ran = folder.run_line("write --anchors sent -o t");
     let summary = "sent: readings 8, refused 5, fixes 3\n";
-    assert_eq!(ended(&ran), (Some(1), summary, messages("sent").as_str()));
+    assert_eq!(ran.ended(), (Some(1), summary, messages("sent").as_str()));
     assert_eq!(folder.get("t"), record(&FIXES));
     // the trail on the standard output, and all that is said on the other
     let ran = folder.run_with(&["write", "--anchors", "-", "-o", "-"], TEXT.as_bytes());
@@ -80,7 +76,7 @@ fn programs_are_told_of_each_refused_reading_and_of_all() {
                 \"readings\":8,\"turned_away\":5}\n";
     let lines = REFUSED.map(line).concat() + last;
     assert_eq!(
-        ended(&ran),
+        ran.ended(),
         (Some(1), lines.as_str(), messages("sent").as_str())
     );
     // from second 5 to 9 more than 3 pass

@@ -39,16 +39,20 @@ impl Ran {
         std::str::from_utf8(&self.out).expect("answers are text")
     }
 
+    /// Its status, answers and messages.
+    pub fn ended(&self) -> (Option<i32>, &str, &str) {
+        (self.status, self.text(), self.err.as_str())
+    }
+
     /// Done, with this answer and no message.
     pub fn says(&self, text: &str) {
-        let what = (self.status, self.text(), self.err.as_str());
-        assert_eq!(what, (Some(0), text, ""));
+        assert_eq!(self.ended(), (Some(0), text, ""));
     }
 
     /// Ended with this status and one line of message, and answered nothing.
     pub fn fails(&self, status: i32, message: &str) {
-        let what = (self.status, self.text(), self.err.as_str());
-        assert_eq!(what, (Some(status), "", format!("{message}\n").as_str()));
+        let message = format!("{message}\n");
+        assert_eq!(self.ended(), (Some(status), "", message.as_str()));
     }
 }
 

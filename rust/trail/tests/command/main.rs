@@ -15,6 +15,7 @@ mod pictures;
 mod readme;
 mod refusals;
 mod sharing;
+mod shift;
 mod storing;
 mod texts;
 mod usage;

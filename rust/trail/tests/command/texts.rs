@@ -152,7 +152,7 @@ fn a_bad_line_is_named_with_its_number() {
         (b"# fixes\n\n1 2 3 4\n", 3, silence("4")),
         (b"1,2,3,1\n2,2,3,Silence", 2, silence("Silence")),
         (b"1,2,3,1 1", 1, silence("1 1")),
-        (b"time,x,y\n1,2,3\n", 1, number("time", "time", times)),
+        (b"when 2 3\n1,2,3\n", 1, number("time", "when", times)),
         (b"1 2 3\n-1 2 3\n", 2, number("time", "-1", times)),
         (b"4294967296 2 3\n", 1, number("time", "4294967296", times)),
         (b"1 32768 3\n", 1, number("x", "32768", places)),
@@ -179,7 +179,8 @@ fn a_refused_list_is_not_stored_and_its_line_is_named() {
         ),
         (
             &many,
-            "fixes: refused 3: The count is 0 or above 4,096. The count is 4097.",
+            "fixes: refused 3: The count is 0 or above 4,096. The count is 4097. \
+             --split makes several trails of them.",
         ),
         (
             "5 0 0\n\n5 0 -16001\n",
@@ -235,6 +236,244 @@ fn the_longest_list_is_stored() {
         let listing = folder.run(&["list", "t"]);
         let end = "fix 4095 4095 -4095\nend\n";
         assert!(listing.text().ends_with(end), "{words:?}");
+    }
+}
+
+// ---- columns under a line with their names
+
+const FINE: [(u32, i32, i32); 2] = [(7, -160_000, 32_768), (9, 160_000, -1)];
+
+#[test]
+fn columns_stand_in_any_order_and_may_name_the_unit() {
+    let folder = Folder::new();
+    let plain = record(&[(7, -1, 2), (9, 3, -4)]);
+    let fine = fine_record(&[(7, -1, 2), (9, 3, -4)]);
+    let silent = silent_record(&[(7, -1, 2, 1), (9, 3, -4, 0)]);
+    for (words, text, made) in [
+        ("", "time,x,y\n7,-1,2\n9,3,-4\n", &plain),
+        (
+            "",
+            "\u{feff}# cart 4\n\nY_cm,T,X_CM\r\n2,7,-1\r\n-4,9,3\r\n",
+            &plain,
+        ),
+        (
+            "",
+            "\"time\",\"x\",\"y\"\n\"7\",\"-1\",\"2\"\n9,\"3\", -4\n",
+            &plain,
+        ),
+        ("", "time x y\n7 -1 2\n9 3 -4\n", &plain),
+        ("", "x_mm,y_mm,t\n-1,2,7\n3,-4,9\n", &fine),
+        ("--millimetres", "x,y,t\n-1,2,7\n3,-4,9\n", &fine),
+        ("--millimetres", "x_mm,y_mm,t\n-1,2,7\n3,-4,9\n", &fine),
+        ("", "silence,t,x,y\n1,7,-1,2\n,9,3,-4\n", &silent),
+        (
+            "",
+            "t,silence,x_cm,y_cm\n7,silence,-1,2\n9,-,3,-4\n",
+            &silent,
+        ),
+        (
+            "--silence-after 1",
+            "t,x_cm,y_cm\n7,-1,2\n9,3,-4\n",
+            &silent,
+        ),
+    ] {
+        folder.put("t", text);
+        folder
+            .run_line(&format!("write {words} t -o made"))
+            .says("");
+        assert_eq!(&folder.get("made"), made, "{words} {text}");
+    }
+    folder.put("t", "x_mm,y_mm,t\n-160000,32768,7\n160000,-1,9\n");
+    folder.run_line("write t -o made").says("");
+    assert_eq!(folder.get("made"), fine_record(&FINE));
+}
+
+#[test]
+fn columns_that_are_unknown_missing_or_at_odds_are_bad() {
+    let folder = Folder::new();
+    let known = "columns are time (or t), x, y and silence; x_cm and y_cm, or x_mm and y_mm, \
+                 name the unit";
+    let unknown = |name| format!("there is no column '{name}'; {known}");
+    let missing = |name| format!("no column is {name}; {known}");
+    let units = || "x and y are of different units, or one names none".to_string();
+    let not_both = || "no kind of trail has millimetres and silences".to_string();
+    for (words, text, line, what) in [
+        ("", "time,x,y,silense\n7,1,2,1\n", 1, unknown("silense")),
+        ("", "time,x,y,\n7,1,2,\n", 1, unknown("")),
+        ("", "time_cm,x,y\n7,1,2\n", 1, unknown("time_cm")),
+        ("", "time,x_m,y_m\n7,1,2\n", 1, unknown("x_m")),
+        ("", "time;x;y\n7;1;2\n", 1, unknown("time;x;y")),
+        ("", "x,y\n1,2\n", 1, missing("time")),
+        ("", "t,silence,x\n1,2,3\n", 1, missing("y")),
+        ("", "t,x,y,x\n1,2,3,4\n", 1, "two columns are x".into()),
+        (
+            "",
+            "t,time,x,y\n1,2,3,4\n",
+            1,
+            "two columns are time".into(),
+        ),
+        ("", "t,x_cm,y_mm\n1,2,3\n", 1, units()),
+        ("", "t,x,y_mm\n1,2,3\n", 1, units()),
+        (
+            "--millimetres",
+            "t,x_cm,y_cm\n1,2,3\n",
+            1,
+            "the columns are in centimetres, and --millimetres says otherwise".into(),
+        ),
+        ("", "t,x_mm,y_mm,silence\n1,2,3,0\n", 1, not_both()),
+        ("--millimetres", "t,x,y,silence\n1,2,3,0\n", 1, not_both()),
+        ("--silence-after 5", "t,x_mm,y_mm\n1,2,3\n", 1, not_both()),
+        (
+            "",
+            "t,x,y,mark_cm\n1,2,3,25\n",
+            1,
+            "there is a column with a mark: that trail was thinned, and what is written is marked \
+             never thinned"
+                .into(),
+        ),
+        (
+            "",
+            "t,x,y,silence\n1,2,3,1\n2,2,3\n",
+            3,
+            "the first line names 4 columns, and here stand 3 fields".into(),
+        ),
+        (
+            "",
+            "y,x,t\n1,2,3\nt,2,3\n",
+            3,
+            "y: 't' isn't a whole number from -16,000 to 16,000".into(),
+        ),
+    ] {
+        folder.put("t", text);
+        let ran = folder.run_line(&format!("write {words} t -o made"));
+        ran.fails(2, &format!("t, line {line}: {what}"));
+        assert_eq!(folder.names(), ["t"]);
+    }
+    // names alone are no fix
+    folder.put("t", "time,x,y\n");
+    let ran = folder.run_line("write t -o made");
+    ran.fails(
+        1,
+        "t: refused 3: The count is 0 or above 4,096. The count is 0.",
+    );
+}
+
+// ---- what `list` prints
+
+#[test]
+fn a_listing_is_a_text() {
+    let folder = Folder::new();
+    for (option, made) in [
+        ("--json", trail_h()),
+        ("--millimetres", fine_record(&FINE)),
+        ("--json", silent_h()),
+    ] {
+        folder.put("h", &made);
+        for epoch in ["--epoch=00:00:00", "--epoch=2026-11-17T23:59:55"] {
+            let listing = folder.run(&["list", epoch, "h"]);
+            let words = ["write", option, epoch, "-", "-o", "again"];
+            let ran = folder.run_with(&words, &listing.out);
+            assert_eq!(ran.status, Some(0), "{}", ran.err);
+            assert_eq!(folder.get("again"), made);
+        }
+    }
+    // of a trail without any silence the listing doesn't say that it could have one
+    let quiet = silent_record(&[(7, -1, 2, 0), (8, 0, 0, 0)]);
+    folder.put("h", &quiet);
+    let listing = folder.run(&["list", "h"]);
+    folder.run_with(&["write", "-", "-o", "t"], &listing.out);
+    assert_eq!(folder.get("t"), record(&[(7, -1, 2), (8, 0, 0)]));
+    let words = ["write", "--silence-after", "9", "-", "-o", "t"];
+    folder.run_with(&words, &listing.out);
+    assert_eq!(folder.get("t"), quiet);
+}
+
+#[test]
+fn a_torn_or_thinned_listing_is_bad() {
+    let folder = Folder::new();
+    let thinned = "that trail was thinned, and what is written is marked never thinned";
+    let torn = "the listing is torn: it has 1 of 2 fixes, and no 'end'";
+    for (text, what) in [
+        ("trail 2 never\nfix 0 0 0\n", format!("t: {torn}")),
+        (
+            "trail 2 never\nfix 0 0 0\nend\n",
+            "t, line 3: the listing says 2 fixes, and has 1".into(),
+        ),
+        (
+            "trail 1 never\nfix 0 0 0\nfix 1 0 0\nend\n",
+            "t, line 4: the listing says 1 fixes, and has 2".into(),
+        ),
+        (
+            "trail 1 never\nfix 0 0 0\nend\nfix 1 0 0\n",
+            "t, line 4: the listing has ended, and here something follows".into(),
+        ),
+        (
+            "trail 1 25\nfix 0 0 0\nend\n",
+            format!("t, line 1: mark '25': {thinned}"),
+        ),
+        (
+            "trail 1\nfix 0 0 0\nend\n",
+            "t, line 1: a listing begins with 'trail COUNT MARK', and here stand 2 fields".into(),
+        ),
+        (
+            "trail -1 never\nend\n",
+            "t, line 1: count: '-1' isn't a whole number from 1 to 4,096".into(),
+        ),
+        (
+            "trail 1 never\n0 0 0\nend\n",
+            "t, line 2: a listing has lines 'fix TIME X Y', and then 'end'".into(),
+        ),
+        (
+            "trail 1 never\nfix 0 0\nend\n",
+            "t, line 2: a fix is 'time x y' or 'time x y silence', and here stand 2 fields".into(),
+        ),
+    ] {
+        folder.put("t", text);
+        folder.run_line("write t -o made").fails(2, &what);
+        assert_eq!(folder.names(), ["t"]);
+    }
+    folder.put("t", "trail 2 never\nfix 0 0 0\n");
+    let ran = folder.run_line("write --json t -o made");
+    let line = format!("{{\"file\":\"t\",\"failed\":\"{torn}\"}}\n");
+    assert_eq!(ran.text(), line);
+}
+
+// ---- times of the clock
+
+#[test]
+fn times_of_the_clock_are_taken_by_every_text() {
+    let folder = Folder::new();
+    let fixes = [(7_190, 1, 2), (7_200, 3, 4)];
+    for (words, text) in [
+        ("--epoch 22:00:00", "23:59:50 1 2\n00:00:00 3 4\n"),
+        ("--epoch 22:00:00", "7190,1,2\n00:00:00+1d,3,4\n"),
+        (
+            "--epoch 2026-11-17T22:00:00",
+            "t,x,y\n23:59:50,1,2\n2026-11-18 00:00:00,3,4\n",
+        ),
+        ("", "01:59:50 1 2\n02:00:00 3 4\n"),
+        (
+            "--anchors --epoch 22:00:00",
+            "23:59:50 absolute 1 2\n00:00:00 step 2 2\n",
+        ),
+    ] {
+        folder.put("t", text);
+        let ran = folder.run_line(&format!("write {words} t -o made"));
+        assert_eq!(ran.status, Some(0), "{}", ran.err);
+        assert_eq!(folder.get("made"), record(&fixes), "{words} {text}");
+    }
+    for (text, what) in [
+        ("24:00:00 1 2\n", "time: '24:00:00' isn't a time like "),
+        (
+            "2026-11-17T06:00:00 1 2\n",
+            "time: '2026-11-17T06:00:00' has a date, and no --epoch",
+        ),
+    ] {
+        folder.put("t", text);
+        let ran = folder.run_line("write t -o new");
+        assert_eq!(ran.status, Some(2));
+        let start = format!("t, line 1: {what}");
+        assert!(ran.err.starts_with(&start), "{}", ran.err);
     }
 }
 

@@ -151,14 +151,14 @@ fn files_that_cannot_be_read_are_named() {
 }
 
 #[test]
-fn texts_above_8_mib_are_turned_away() {
+fn texts_above_16_mib_are_turned_away() {
     let folder = Folder::new();
     let file = fs::File::create(folder.path().join("big")).expect("a file");
     // a file of nothing, which takes no room
-    file.set_len((8 << 20) + 1).expect("a length");
+    file.set_len((16 << 20) + 1).expect("a length");
     for name in ["big", "/dev/zero"] {
         let ran = folder.run(&["write", name, "-o", "new"]);
-        ran.fails(3, &format!("{name}: it has more than 8 MiB"));
+        ran.fails(3, &format!("{name}: it has more than 16 MiB"));
     }
 }
 
