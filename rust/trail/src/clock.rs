@@ -193,6 +193,11 @@ impl Clock {
         }
     }
 
+    /// Whether seconds are told on a clock, and not as numbers.
+    pub fn is_set(self) -> bool {
+        self.0.is_some()
+    }
+
     /// A second as people read it.
     pub fn show(self, second: u32) -> String {
         match self.0 {

@@ -1,9 +1,12 @@
-//! Columns under a line with their names, as a text may have them.
+//! Columns under a line with their names: those that a text may have, and those that `trail list --csv` prints.
 
-use trails::Unit;
+use std::fmt::Write as _;
+
+use trails::{AnyFix, Unit};
 
 use crate::lines;
 use crate::texts::{thinned, Said, Words, NOT_BOTH};
+use crate::trail::Trail;
 use crate::words;
 
 /// What a text's columns may be, for messages.
@@ -147,4 +150,41 @@ impl Columns {
             silence: self.silence.map(word),
         })
     }
+}
+
+/// The fields that a trail has columns of.
+fn fields(trail: &Trail) -> impl Iterator<Item = Field> + '_ {
+    Field::ALL.into_iter().filter(|field| match field {
+        Field::Silence => trail.kind.has_silences(),
+        Field::Mark => trail.mark.is_some(),
+        Field::Time | Field::X | Field::Y => true,
+    })
+}
+
+fn word(trail: &Trail, fix: &AnyFix, field: Field) -> String {
+    match field {
+        Field::Time => trail.clock.show(fix.t),
+        Field::X => fix.x.to_string(),
+        Field::Y => fix.y.to_string(),
+        Field::Silence => u8::from(fix.silence).to_string(),
+        Field::Mark => trail.mark.map_or(String::new(), |mark| mark.to_string()),
+    }
+}
+
+/// A trail's fixes in columns. One that was thinned has its mark beside each fix, where no other tool loses it without
+/// being told to; `trail write` makes no trail of such columns.
+pub fn text(trail: &Trail) -> String {
+    let symbol = trail.unit().symbol();
+    let name = |field: Field| match field.is_length() {
+        true => format!("{}_{symbol}", field.name()),
+        false => field.name().into(),
+    };
+    let names: Vec<String> = fields(trail).map(name).collect();
+    let mut text = format!("{}\n", names.join(","));
+    for fix in &trail.fixes {
+        let words: Vec<String> = fields(trail).map(|field| word(trail, fix, field)).collect();
+        // a text takes all that it is given
+        let _ = writeln!(text, "{}", words.join(","));
+    }
+    text
 }

@@ -11,6 +11,8 @@ pub enum Json {
     Null,
     Truth(bool),
     Whole(i128),
+    /// A number with so many digits after the point, exactly: of 5 and 2 it is 0.05.
+    Decimal(i64, usize),
     /// A text, or a file's name, exactly: a byte that isn't UTF-8 is a lone surrogate, \udc80 to \udcff, as Python has it.
     Text(OsString),
     List(Vec<Json>),
@@ -69,6 +71,16 @@ fn quoted(text: &OsStr) -> String {
     format!("\"{}\"", pieces.collect::<String>())
 }
 
+fn decimal(number: i64, digits: usize) -> String {
+    let sign = match number < 0 {
+        true => "-",
+        false => "",
+    };
+    let all = format!("{:0width$}", number.unsigned_abs(), width = digits + 1);
+    let (whole, part) = all.split_at(all.len().saturating_sub(digits));
+    format!("{sign}{whole}.{part}")
+}
+
 /// Values with commas between them.
 fn list(values: impl Iterator<Item = String>) -> String {
     values.collect::<Vec<_>>().join(",")
@@ -80,6 +92,7 @@ impl fmt::Display for Json {
             Json::Null => to.write_str("null"),
             Json::Truth(truth) => write!(to, "{truth}"),
             Json::Whole(number) => write!(to, "{number}"),
+            Json::Decimal(number, digits) => to.write_str(&decimal(*number, *digits)),
             Json::Text(text) => to.write_str(&quoted(text)),
             Json::List(values) => {
                 write!(to, "[{}]", list(values.iter().map(Json::to_string)))
@@ -108,6 +121,19 @@ mod tests {
     fn names_are_exact() {
         let name = Json::text(OsStr::from_bytes(b"a\xffb\xc3\x28\xc3\xa9"));
         assert_eq!(name.to_string(), r#""a\udcffb\udcc3(é""#);
+    }
+
+    #[test]
+    fn decimal_numbers_are_exact() {
+        for (number, digits, text) in [
+            (0, 2, "0.00"),
+            (5, 2, "0.05"),
+            (-5, 3, "-0.005"),
+            (-16_000, 2, "-160.00"),
+            (160_001, 3, "160.001"),
+        ] {
+            assert_eq!(Json::Decimal(number, digits).to_string(), text);
+        }
     }
 
     #[test]

@@ -17,6 +17,7 @@ mod cross;
 mod dearest;
 mod failure;
 mod files;
+mod geojson;
 mod json;
 mod lines;
 mod list;
@@ -69,7 +70,7 @@ static COMMANDS: &[Command] = &[
 const HELP: &str = "\
 usage: trail COMMAND ARGUMENTS
 
-  list     print a trail's fixes
+  list     print a trail's fixes, also as CSV or GeoJSON
   check    say whether files begin with a trail
   write    make trails of texts with fixes, or with what anchors sent
   dearest  make the trail that costs most to age, for sizing a controller

@@ -6,6 +6,7 @@ mod answers;
 mod approaches;
 mod clock;
 mod dearest;
+mod exports;
 mod folder;
 mod install;
 mod links;
