@@ -1,33 +1,45 @@
 //! `trail age`: thins trails, by a tolerance or by days.
 
-use std::ffi::OsStr;
-use std::io::{self, IsTerminal, Read, Write};
+use std::ffi::{OsStr, OsString};
+use std::io::Read;
+use std::path::Path;
 
-use trails::{Aging, Unit};
+use trails::Aging;
 
+use crate::aged::{age, age_in_place, try_in_place, Aged, Sums};
 use crate::arguments::{Arguments, Command};
 use crate::failure::{Failure, Status};
+use crate::files::Inputs;
 use crate::json::Json;
-use crate::store::{store, Locked};
-use crate::trail::refused;
+use crate::many::Ends;
+use crate::outputs::{keep_apart, Outputs};
+use crate::progress::Progress;
+use crate::store::store;
 use crate::{files, output, table, words};
 
 pub const COMMAND: Command = Command {
     name: "age",
     help: HELP,
-    options: &["--tolerance", "--days", "--table", "-o", "--json"],
+    options: &[
+        "--tolerance",
+        "--days",
+        "--table",
+        "--dry-run",
+        "-o",
+        "--json",
+    ],
     run,
 };
 
 const HELP: &str = "\
-usage: trail age --tolerance E [--json] FILE...
-       trail age --days D [--table FILE] [--json] FILE...
-       trail age (--tolerance E | --days D [--table FILE]) [--json] FILE -o OUT
+usage: trail age --tolerance E [--dry-run] [--json] FILE... [-o OUT]
+       trail age --days D [--table FILE] [--dry-run] [--json] FILE... [-o OUT]
 
 Thins each trail and puts it in its file's place: the new record, and what
 followed the old one. The fixes that were thinned away are gone, and the file
 is shorter by the bytes that were freed. Each stretch between silences is
-thinned by itself, so both ends of a silence stay. Goes on past a refused file.
+thinned by itself, so both ends of a silence stay. Goes on past a refused file,
+and of several files says at the end what they had and what is left.
 
 The new file is written beside the old one, flushed, and given its name. Group,
 permissions and access list stay, other attributes don't. The owner stays if
@@ -47,62 +59,21 @@ Of a file with several names only the given one is aged.
   --table FILE   take this table, a hall's own, in place of the built-in one;
                  'trail table' says what it may be, and checks it. It is loaded
                  before any trail is looked at
+  --dry-run      say what would be done, and store nothing: no file is changed,
+                 locked or made, and one that is protected can be tried too
   -o OUT         store the aged trail there and leave FILE, which may then be
                  '-', the standard input. If OUT is '-', the standard output,
-                 the answer is on standard error
-  --json         print one line for each file: {\"file\", \"unit\", \"before\",
-                 \"count\", \"mark\", \"measured\", \"freed\"},
-                 {\"file\", \"refused\", \"sentence\"} or {\"file\", \"failed\"}
+                 the answer is on standard error. If OUT is a folder or ends
+                 with '/', the aged trail has FILE's name there. Those of
+                 several files go to a folder, which is made if it isn't there
+  --json         print one line for each file: {\"file\", \"unit\", \"mark\",
+                 \"before\", \"count\", \"measured\", \"bytes_before\", \"bytes\",
+                 \"freed\", \"dry_run\"}, with the record's fixes and bytes before
+                 and after, {\"file\", \"refused\", \"sentence\"} or {\"file\",
+                 \"failed\"}. Of several files the last line is {\"files\",
+                 \"aged\", \"refused\": [names], \"failed\": [names]} with the
+                 sums of these numbers
 ";
-
-/// What an aging did to a trail.
-struct Aged {
-    unit: Unit,
-    before: u32,
-    count: u32,
-    mark: Option<u16>,
-    measured: u32,
-    freed: usize,
-    /// the new record, and what has been read of what followed the old one
-    bytes: Vec<u8>,
-}
-
-/// Ages the record that the bytes begin with. The old record's rest goes: a new head would bring back what was thinned
-/// away.
-fn age(name: &OsStr, mut bytes: Vec<u8>, aging: Aging) -> Result<Aged, Failure> {
-    let before = trails::check(&bytes).map_err(refused(name, &bytes))?;
-    let measured = aging.apply(&mut bytes).map_err(refused(name, &bytes))?;
-    let after = trails::check(&bytes).map_err(refused(name, &bytes))?;
-    let gone = after.length()..before.length();
-    let freed = gone.len();
-    bytes.drain(gone);
-    Ok(Aged {
-        unit: after.unit(),
-        before: before.count,
-        count: after.count,
-        mark: after.mark,
-        measured,
-        freed,
-        bytes,
-    })
-}
-
-fn age_in_place(name: &OsStr, aging: Aging) -> Result<Aged, Failure> {
-    let locked = Locked::read(name)?;
-    let was = files::read_start(&mut &locked.file).map_err(files::failed(name))?;
-    let aged = age(name, was.clone(), aging)?;
-    if aged.bytes != was {
-        locked.replace(name, &was, aged.bytes.chain(&locked.file))?;
-    }
-    Ok(aged)
-}
-
-fn age_into(name: &OsStr, aging: Aging, to: &OsStr) -> Result<Aged, Failure> {
-    let (bytes, rest) = files::begin(name)?;
-    let aged = age(name, bytes, aging)?;
-    store(to, &[name], aged.bytes.chain(rest))?;
-    Ok(aged)
-}
 
 /// What the words ask for, before any file is read.
 #[derive(Clone, Copy)]
@@ -140,127 +111,140 @@ impl<'a> Asked<'a> {
     }
 }
 
+/// Where the aged trails go, if not to their own places.
+fn outputs(
+    arguments: &Arguments,
+    names: &[OsString],
+    table: Option<&OsStr>,
+) -> Result<Option<Outputs>, Failure> {
+    if !arguments.has("-o") {
+        return match names.iter().any(|name| name == "-") {
+            true => Err(arguments.wrong("'-' can't be aged in place; give -o too")),
+            false => Ok(None),
+        };
+    }
+    let read = names.iter().map(OsString::as_os_str);
+    arguments.can_read(read.clone().chain(table))?;
+    let own = |name: &Path| name.file_name().map(OsStr::to_os_string);
+    let outputs = Outputs::of(arguments, names, own)?;
+    let itself = match names {
+        [_] => "-o names the trail itself; leave -o out to age it in its place",
+        _ => "an output is one of the trails; leave -o out to age them in their places",
+    };
+    keep_apart(arguments, &outputs.names, &Inputs::of(read), itself)?;
+    let table = Inputs::of(table);
+    keep_apart(arguments, &outputs.names, &table, "-o names the table")?;
+    Ok(Some(outputs))
+}
+
+/// Where an aged trail goes.
+#[derive(Clone, Copy)]
+enum Target<'a> {
+    Itself,
+    /// one of the outputs
+    Output(&'a Outputs, &'a OsStr),
+}
+
+/// What is done with each trail, and how it is told.
+struct Ages {
+    aging: Aging,
+    outputs: Option<Outputs>,
+    dry: bool,
+    json: bool,
+}
+
+impl Ages {
+    /// Where each of so many trails goes.
+    fn targets(&self, files: usize) -> Vec<Target<'_>> {
+        let Some(outputs) = &self.outputs else {
+            return vec![Target::Itself; files];
+        };
+        let names = outputs.names.iter();
+        names.map(|to| Target::Output(outputs, to)).collect()
+    }
+
+    fn age(&self, name: &OsStr, target: Target) -> Result<Aged, Failure> {
+        let (outputs, to) = match target {
+            Target::Output(outputs, to) => (outputs, to),
+            Target::Itself if self.dry => return try_in_place(name, self.aging),
+            Target::Itself => return age_in_place(name, self.aging),
+        };
+        let (bytes, rest) = files::begin(name)?;
+        let aged = age(name, bytes, self.aging)?;
+        if !self.dry {
+            outputs.make_folder()?;
+            store(to, &[name], aged.bytes.chain(rest))?;
+        }
+        Ok(aged)
+    }
+
+    fn text(&self, name: &OsStr, aged: &Aged) -> String {
+        let (kept, freed) = match self.dry {
+            true => ("would keep", "would free"),
+            false => ("kept", "freed"),
+        };
+        let (file, after) = (words::shown(name), aged.after);
+        let fixes = format!("{} of {} fixes", after.count, aged.before.count);
+        let (measured, mark) = (aged.measured, words::mark(after.mark, after.unit()));
+        let bytes = Sums::of(aged).freed();
+        format!("{file}: {kept} {fixes}, measured {measured}, mark {mark}, {freed} {bytes} bytes")
+    }
+
+    fn fields(&self, name: &OsStr, aged: &Aged) -> Json {
+        let mut fields = vec![
+            ("file", Json::text(name)),
+            ("unit", Json::unit(aged.after.unit())),
+            ("mark", Json::mark(aged.after.mark)),
+        ];
+        fields.extend(Sums::of(aged).fields(self.dry));
+        Json::Object(fields)
+    }
+
+    /// Tells what an aging did: it is done whether or not that is heard, so people are told in any case.
+    fn tell(&self, name: &OsStr, target: Target, aged: &Aged) -> Result<(), Failure> {
+        let text = self.text(name, aged);
+        if matches!(target, Target::Output(_, to) if to == "-") {
+            // the standard output has the trail
+            output::message(&text);
+            return Ok(());
+        }
+        let told = match self.json {
+            true => output::print_json(self.fields(name, aged)),
+            false => output::print(&format!("{text}\n")),
+        };
+        if told.is_err() {
+            output::message(&text);
+        }
+        told
+    }
+
+    /// Ages file after file, whatever becomes of one.
+    fn all(&self, names: &[OsString]) -> Result<Status, Failure> {
+        let mut progress = Progress::of(names.len());
+        let (mut ends, mut sums) = (Ends::new(), Sums::default());
+        let mut heard = Ok(());
+        for (name, target) in names.iter().zip(self.targets(names.len())) {
+            let aged = progress.during(|| self.age(name, target));
+            if let Some(aged) = ends.take(name, aged, self.json) {
+                sums.add(&Sums::of(&aged));
+                heard = heard.and(self.tell(name, target, &aged));
+            }
+        }
+        let (counts, text) = ([("aged", sums.files)], sums.text(self.dry));
+        let told = ends.tell_with(&counts, &text, sums.fields(self.dry), self.json);
+        heard.and(told)
+    }
+}
+
 fn run(arguments: &Arguments) -> Result<Status, Failure> {
     let asked = Asked::of(arguments)?;
-    let json = arguments.has("--json");
     let names = arguments.several("one file or more")?;
-    if !arguments.has("-o") {
-        if names.iter().any(|name| name == "-") {
-            return Err(arguments.wrong("'-' can't be aged in place; give -o too"));
-        }
-        return age_all(names, asked.aging()?, json);
-    }
-    let [name] = arguments.exactly("one file where -o is given")?;
-    arguments.can_read([name.as_os_str()].into_iter().chain(asked.table()))?;
-    let to = arguments.output()?;
-    if files::is_read(name, to) {
-        let what = "-o names the trail itself; leave -o out to age it in its place";
-        return Err(arguments.wrong(what));
-    }
-    if asked.table().is_some_and(|table| files::is_read(table, to)) {
-        return Err(arguments.wrong("-o names the table"));
-    }
-    let aged = age_into(name, asked.aging()?, to)?;
-    match to == "-" {
-        // the standard output has the trail
-        true => output::message(&text(name, &aged)),
-        false => answer(name, &aged, json)?,
-    }
-    Ok(Status::Done)
-}
-
-/// Ages file after file, whatever becomes of one.
-fn age_all<N: AsRef<OsStr>>(names: &[N], aging: Aging, json: bool) -> Result<Status, Failure> {
-    let progress = Progress::of(names.len());
-    let mut ends = Vec::new();
-    let mut freed = 0;
-    let mut unheard = None;
-    for (done, name) in names.iter().map(AsRef::as_ref).enumerate() {
-        progress.show(done);
-        let aged = age_in_place(name, aging);
-        progress.clear();
-        ends.push(match aged {
-            Ok(aged) => {
-                freed += aged.freed;
-                unheard = answer(name, &aged, json).err().or(unheard);
-                Status::Done
-            }
-            Err(failure) => output::report(&failure, json),
-        });
-    }
-    if names.len() > 1 {
-        output::message(&summary(&ends, freed));
-    }
-    match unheard {
-        Some(failure) => Err(failure),
-        None => Ok(ends.into_iter().max().unwrap_or(Status::Done)),
-    }
-}
-
-fn summary(ends: &[Status], freed: usize) -> String {
-    let count = |status| ends.iter().filter(|end| **end == status).count();
-    let (aged, refused) = (count(Status::Done), count(Status::Refused));
-    let failed = ends.len().saturating_sub(aged).saturating_sub(refused);
-    let files = ends.len();
-    format!("{files} files: {aged} aged, {refused} refused, {failed} failed; {freed} bytes freed")
-}
-
-fn text(name: &OsStr, aged: &Aged) -> String {
-    let (file, mark) = (words::shown(name), words::mark(aged.mark, aged.unit));
-    let kept = format!("kept {} of {} fixes", aged.count, aged.before);
-    let (measured, freed) = (aged.measured, aged.freed);
-    format!("{file}: {kept}, measured {measured}, mark {mark}, freed {freed} bytes")
-}
-
-/// Tells what an aging did: it is done whether or not that is heard, so people are told in any case.
-fn answer(name: &OsStr, aged: &Aged, json: bool) -> Result<(), Failure> {
-    let text = text(name, aged);
-    let told = match json {
-        true => output::print_json(fields(name, aged)),
-        false => output::print(&format!("{text}\n")),
+    let outputs = outputs(arguments, names, asked.table())?;
+    let ages = Ages {
+        aging: asked.aging()?,
+        outputs,
+        dry: arguments.has("--dry-run"),
+        json: arguments.has("--json"),
     };
-    if told.is_err() {
-        output::message(&text);
-    }
-    told
-}
-
-fn fields(name: &OsStr, aged: &Aged) -> Json {
-    Json::Object(vec![
-        ("file", Json::text(name)),
-        ("unit", Json::unit(aged.unit)),
-        ("before", Json::Whole(aged.before.into())),
-        ("count", Json::Whole(aged.count.into())),
-        ("mark", Json::mark(aged.mark)),
-        ("measured", Json::Whole(aged.measured.into())),
-        ("freed", Json::Whole(aged.freed as i128)),
-    ])
-}
-
-/// A line that says how far the work is, for people at a terminal.
-struct Progress {
-    files: usize,
-    wanted: bool,
-}
-
-impl Progress {
-    fn of(files: usize) -> Progress {
-        Progress {
-            files,
-            wanted: files > 1 && io::stderr().is_terminal(),
-        }
-    }
-
-    fn show(&self, done: usize) {
-        if self.wanted {
-            let _ = write!(io::stderr(), "{done} of {} files", self.files);
-        }
-    }
-
-    /// Takes the line away, so that an answer stands alone.
-    fn clear(&self) {
-        if self.wanted {
-            let _ = write!(io::stderr(), "\r\u{1b}[K");
-        }
-    }
+    ages.all(names)
 }

@@ -5,6 +5,7 @@
 #![forbid(unsafe_code)]
 
 mod age;
+mod aged;
 mod anchors;
 mod answer;
 mod arguments;
@@ -32,6 +33,7 @@ mod output;
 mod outputs;
 mod place;
 mod plot;
+mod progress;
 mod replay;
 mod split;
 mod store;

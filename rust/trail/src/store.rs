@@ -42,6 +42,14 @@ fn target(name: &OsStr) -> io::Result<PathBuf> {
     Err(io::Error::other("its links lead nowhere"))
 }
 
+/// Whether a file can be replaced. A folder and a pipe can't, and opening a pipe might wait for ever.
+pub fn is_plain(name: &OsStr) -> io::Result<()> {
+    match fs::metadata(name)?.is_file() {
+        true => Ok(()),
+        false => Err(io::Error::other("it isn't a plain file")),
+    }
+}
+
 /// A plain file that is to be replaced. It is locked against other runs of this command, from before it is read until
 /// it is replaced or let go.
 pub struct Locked {
@@ -60,10 +68,7 @@ impl Locked {
     }
 
     fn open(name: &OsStr, options: &OpenOptions) -> io::Result<Locked> {
-        // a folder and a pipe can't be replaced, and opening a pipe might wait for ever
-        if !fs::metadata(name)?.is_file() {
-            return Err(io::Error::other("it isn't a plain file"));
-        }
+        is_plain(name)?;
         let path = target(name)?;
         let patience = Instant::now() + PATIENCE;
         loop {

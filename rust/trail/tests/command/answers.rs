@@ -185,8 +185,8 @@ fn age_by_days_takes_the_tables_tolerance() {
         .says("h: kept 4 of 4 fixes, measured 0, mark never, freed 0 bytes\n");
     assert_eq!(folder.get("h"), trail_h());
     folder.run(&["age", "--json", "--days", "7", "h"]).says(
-        "{\"file\":\"h\",\"unit\":\"cm\",\"before\":4,\"count\":2,\"mark\":25,\
-         \"measured\":2,\"freed\":16}\n",
+        "{\"file\":\"h\",\"unit\":\"cm\",\"mark\":25,\"before\":4,\"count\":2,\"measured\":2,\
+         \"bytes_before\":42,\"bytes\":26,\"freed\":16,\"dry_run\":false}\n",
     );
 }
 
@@ -455,8 +455,8 @@ fn a_trail_in_millimetres_is_aged_in_them() {
     assert_eq!(folder.get("new"), fine_h_at_105());
     // 7 days are 25 centimetres
     folder.run(&["age", "--days", "7", "h", "--json"]).says(
-        "{\"file\":\"h\",\"unit\":\"mm\",\"before\":4,\"count\":2,\"mark\":250,\
-         \"measured\":2,\"freed\":24}\n",
+        "{\"file\":\"h\",\"unit\":\"mm\",\"mark\":250,\"before\":4,\"count\":2,\"measured\":2,\
+         \"bytes_before\":58,\"bytes\":34,\"freed\":24,\"dry_run\":false}\n",
     );
     // a tolerance is in each trail's own unit
     folder.put("fine", fine_h());
@@ -593,7 +593,7 @@ fn a_trail_with_silences_is_aged_stretch_by_stretch() {
     let end = "\"fixes\":[[0,0,0,0],[30,0,0,1],[300,400,90,0],[320,440,90,0]]}\n";
     assert!(json.text().ends_with(end), "{}", json.text());
     folder.run(&["age", "--days", "90", "--json", "h"]).says(
-        "{\"file\":\"h\",\"unit\":\"cm\",\"before\":7,\"count\":4,\"mark\":400,\
-         \"measured\":3,\"freed\":27}\n",
+        "{\"file\":\"h\",\"unit\":\"cm\",\"mark\":400,\"before\":7,\"count\":4,\"measured\":3,\
+         \"bytes_before\":73,\"bytes\":46,\"freed\":27,\"dry_run\":false}\n",
     );
 }

@@ -3,9 +3,12 @@
 use std::fs;
 
 use trails_tests::plain::kinds::{Kind, KINDS, MILLIMETRES, SILENCES};
-use trails_tests::plain::{Fix, Trail};
+use trails_tests::plain::{self, Fix, Trail};
 
-use crate::folder::{fine_h, record, silent_h, silent_record, trail_h, Folder};
+use crate::folder::{
+    fine_h, fine_h_at_105, record, silent_h, silent_h_at_12, silent_record, trail_h, trail_h_at_12,
+    Folder,
+};
 
 /// So many fixes, a second apart. Where a kind has silences, every fifth fix says one.
 fn fixes(kind: Kind, count: u32) -> Vec<Fix> {
@@ -355,4 +358,158 @@ fn odd_names_keep_their_bytes_in_a_folder() {
     let ran = folder.run_in_shell(line, &["write"]);
     assert_eq!(ran.status, Some(0), "{}", ran.err);
     assert_eq!(ran.text(), "-o.trail\na\\377.trail\nx\\033[2J,.trail\n");
+}
+
+// ---- aging a shift
+
+/// A trail of each kind.
+fn with_shift() -> Folder {
+    let folder = Folder::new();
+    fs::create_dir(folder.path().join("shift")).expect("a folder");
+    folder.put("shift/one", trail_h());
+    folder.put("shift/fine", [fine_h(), b"what follows".to_vec()].concat());
+    folder.put("shift/silent", silent_h());
+    folder
+}
+
+const SHIFT: &str = "shift/one shift/fine shift/silent";
+
+fn is_as_it_was(folder: &Folder) {
+    assert_eq!(folder.get("shift/one"), trail_h());
+    let fine = [fine_h(), b"what follows".to_vec()].concat();
+    assert_eq!(folder.get("shift/fine"), fine);
+    assert_eq!(folder.get("shift/silent"), silent_h());
+    let names = fs::read_dir(folder.path().join("shift")).expect("it is there");
+    assert_eq!(names.count(), 3);
+}
+
+#[test]
+fn a_shift_is_aged_into_a_folder() {
+    let folder = with_shift();
+    let ran = folder.run_line(&format!("age --tolerance 12 {SHIFT} -o aged"));
+    let answers = "shift/one: kept 3 of 4 fixes, measured 3, mark 12 cm, freed 8 bytes\n\
+        shift/fine: kept 4 of 4 fixes, measured 3, mark 12 mm, freed 0 bytes\n\
+        shift/silent: kept 6 of 7 fixes, measured 4, mark 12 cm, freed 9 bytes\n";
+    let summary = "3 files: 3 aged, 0 refused, 0 failed; 15 fixes to 13, 173 bytes to 156\n";
+    assert_eq!(ran.ended(), (Some(0), answers, summary));
+    is_as_it_was(&folder);
+    assert_eq!(folder.get("aged/one"), trail_h_at_12());
+    assert_eq!(folder.get("aged/silent"), silent_h_at_12());
+    // one file too, over what is there, with what follows its record
+    folder
+        .run_line("age --tolerance 105 shift/fine -o aged")
+        .says("shift/fine: kept 3 of 4 fixes, measured 3, mark 105 mm, freed 12 bytes\n");
+    let fine = [fine_h_at_105(), b"what follows".to_vec()].concat();
+    assert_eq!(folder.get("aged/fine"), fine);
+    assert_eq!(folder.names(), ["aged", "shift"]);
+}
+
+#[test]
+fn a_dry_run_says_the_same_and_stores_nothing() {
+    let folder = with_shift();
+    folder.put("b", "no trail");
+    for name in ["shift/one", "shift/fine", "shift/silent"] {
+        folder.permit(name, 0o444);
+    }
+    let answers =
+        "shift/one: would keep 3 of 4 fixes, measured 3, mark 12 cm, would free 8 bytes\n\
+        shift/fine: would keep 4 of 4 fixes, measured 3, mark 12 mm, would free 0 bytes\n\
+        shift/silent: would keep 6 of 7 fixes, measured 4, mark 12 cm, would free 9 bytes\n";
+    let err = "b: refused 1: The lent bytes are fewer than 10.\n\
+        4 files: 3 aged, 1 refused, 0 failed; 15 fixes to 13, 173 bytes to 156; \
+        nothing is stored; refused: b\n";
+    for out in ["", " -o aged"] {
+        let ran = folder.run_line(&format!("age --dry-run --tolerance 12 {SHIFT} b{out}"));
+        assert_eq!(ran.ended(), (Some(1), answers, err));
+        is_as_it_was(&folder);
+        assert_eq!(folder.names(), ["b", "shift"]);
+    }
+    let ran = folder.run_line(&format!("age --json --dry-run --days 2 {SHIFT}"));
+    let lines: Vec<&str> = ran.text().lines().collect();
+    let fine = "{\"file\":\"shift/fine\",\"unit\":\"mm\",\"mark\":100,\"before\":4,\"count\":3,\
+                \"measured\":3,\"bytes_before\":58,\"bytes\":46,\"freed\":12,\"dry_run\":true}";
+    assert_eq!(lines[1], fine);
+    let total = "{\"files\":3,\"aged\":3,\"refused\":[],\"failed\":[],\"before\":15,\"count\":12,\
+                 \"measured\":10,\"bytes_before\":173,\"bytes\":144,\"freed\":29,\"dry_run\":true}";
+    assert_eq!(lines[3..], [total]);
+    is_as_it_was(&folder);
+}
+
+/// Somebody may hold the lock for ever, and what isn't a plain file is turned away as it is without a dry run.
+#[test]
+fn a_dry_run_takes_no_lock_and_waits_for_nobody() {
+    let folder = Folder::with_h();
+    let held = fs::File::open(folder.path().join("h")).expect("it is there");
+    held.lock().expect("it is ours");
+    folder
+        .run_line("age --dry-run --tolerance 12 h")
+        .says("h: would keep 3 of 4 fixes, measured 3, mark 12 cm, would free 8 bytes\n");
+    let line = "mkfifo pipe && \"$@\"";
+    let ran = folder.run_in_shell(line, &["age", "--dry-run", "--days", "7", "pipe"]);
+    ran.fails(3, "pipe: it isn't a plain file");
+}
+
+/// Words that would lose a trail, and why.
+const LOST: [(&str, &str); 6] = [
+    (
+        "age --days 7 shift/one shift/fine -o shift",
+        "an output is one of the trails; leave -o out to age them in their places",
+    ),
+    (
+        "age --days 7 shift/one -o shift",
+        "-o names the trail itself; leave -o out to age it in its place",
+    ),
+    (
+        "age --days 7 shift/one other/one -o aged",
+        "two files would become aged/one",
+    ),
+    (
+        "age --days 7 shift/one - -o aged",
+        "standard input has no name for a file in a folder",
+    ),
+    (
+        "age --days 7 shift/one shift/fine -o shift/one",
+        "what is made of several files goes to a folder",
+    ),
+    (
+        "age --days 7 --table other/one shift/one shift/fine -o other",
+        "-o names the table",
+    ),
+];
+
+#[test]
+fn no_trail_is_lost_to_another() {
+    let folder = with_shift();
+    fs::create_dir(folder.path().join("other")).expect("a folder");
+    folder.put("other/one", "2 10\n");
+    for (words, what) in LOST {
+        for dry in ["", " --dry-run"] {
+            let message = format!("trail: age: {what}; try 'trail age --help'");
+            folder.run_line(&format!("{words}{dry}")).fails(2, &message);
+        }
+        is_as_it_was(&folder);
+    }
+    assert_eq!(folder.get("other/one"), b"2 10\n");
+    assert_eq!(folder.names(), ["other", "shift"]);
+}
+
+/// From texts to an aged folder: what is left of each record is what aging it alone leaves.
+#[test]
+fn a_split_shift_of_every_kind_is_aged() {
+    let folder = Folder::new();
+    for kind in KINDS {
+        folder.put("cart.txt", text(kind, &fixes(kind, 5_000)));
+        let ran = folder.run_line(&write(kind, "--split cart.txt -o shift/"));
+        assert_eq!(ran.status, Some(0), "{}", ran.err);
+        let parts = "shift/cart-001.trail shift/cart-002.trail";
+        let ran = folder.run_line(&format!("age --tolerance 30 {parts} -o aged/"));
+        assert_eq!(ran.status, Some(0), "{}", ran.err);
+        for name in ["cart-001.trail", "cart-002.trail"] {
+            let aged = plain::read(&folder.get(&format!("aged/{name}"))).expect("a trail");
+            let whole = plain::read(&folder.get(&format!("shift/{name}"))).expect("a trail");
+            assert_eq!(aged.mark, 30);
+            assert_eq!(aged.fixes.first(), whole.fixes.first());
+            assert_eq!(aged.fixes.last(), whole.fixes.last());
+        }
+    }
 }

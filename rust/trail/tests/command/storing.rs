@@ -130,6 +130,12 @@ fn in_a_folder_that_cannot_be_written_the_trail_stays() {
     }
     let ran = run_bound(&folder, &["age", "--days", "7", "shut/h", "-o", "shut/t"]);
     ran.fails(3, "shut/t: Permission denied (os error 13)");
+    for out in ["shut/new/", "shut"] {
+        let ran = run_bound(&folder, &["age", "--days", "7", "h", "program", "-o", out]);
+        assert_eq!(ran.status, Some(3));
+        assert!(ran.err.starts_with("shut/"), "{}", ran.err);
+        assert!(ran.err.contains(": Permission denied (os error 13)\n"));
+    }
     folder.permit("shut", 0o755);
     assert_eq!(
         fs::read_dir(folder.path().join("shut"))
@@ -146,8 +152,12 @@ fn a_trail_that_is_protected_from_writing_isnt_aged() {
     folder.permit(".", 0o777);
     let ran = run_bound(&folder, &AGE_H);
     ran.fails(3, "h: Permission denied (os error 13)");
-    let ran = run_bound(&folder, &["list", "h"]);
-    assert_eq!(ran.status, Some(0));
+    for words in [
+        &["list", "h"][..],
+        &["age", "--dry-run", "--tolerance", "12", "h"],
+    ] {
+        assert_eq!(run_bound(&folder, words).status, Some(0), "{words:?}");
+    }
     assert_eq!(folder.get("h"), trail_h());
     assert_eq!(folder.names(), ["h"]);
 }
@@ -166,20 +176,25 @@ fn work_goes_on_past_a_refused_file_and_is_summed_up() {
     );
     assert_eq!(
         ran.err,
-        "b: refused 1: The lent bytes are fewer than 10.\n3 files: 2 aged, 1 refused, 0 failed; 16 bytes freed\n"
+        "b: refused 1: The lent bytes are fewer than 10.\n\
+         3 files: 2 aged, 1 refused, 0 failed; 8 fixes to 6, 84 bytes to 68; refused: b\n"
     );
     assert_eq!(folder.get("b"), b"no trail");
     let ran = folder.run(&["age", "--json", "--days", "90", "a", "missing", "b"]);
     assert_eq!(ran.status, Some(3));
     assert_eq!(
         ran.text(),
-        "{\"file\":\"a\",\"unit\":\"cm\",\"before\":3,\"count\":2,\"mark\":400,\"measured\":1,\"freed\":8}\n\
+        "{\"file\":\"a\",\"unit\":\"cm\",\"mark\":400,\"before\":3,\"count\":2,\"measured\":1,\
+         \"bytes_before\":34,\"bytes\":26,\"freed\":8,\"dry_run\":false}\n\
          {\"file\":\"missing\",\"failed\":\"No such file or directory (os error 2)\"}\n\
-         {\"file\":\"b\",\"refused\":1,\"sentence\":\"The lent bytes are fewer than 10.\"}\n"
+         {\"file\":\"b\",\"refused\":1,\"sentence\":\"The lent bytes are fewer than 10.\"}\n\
+         {\"files\":3,\"aged\":1,\"refused\":[\"b\"],\"failed\":[\"missing\"],\
+         \"before\":3,\"count\":2,\"measured\":1,\
+         \"bytes_before\":34,\"bytes\":26,\"freed\":8,\"dry_run\":false}\n"
     );
-    assert!(ran
-        .err
-        .ends_with("\n3 files: 1 aged, 1 refused, 1 failed; 8 bytes freed\n"));
+    let summary = "\n3 files: 1 aged, 1 refused, 1 failed; 3 fixes to 2, 34 bytes to 26; \
+                   refused: b; failed: missing\n";
+    assert!(ran.err.ends_with(summary), "{}", ran.err);
 }
 
 #[test]
@@ -208,7 +223,7 @@ fn people_at_a_terminal_see_how_far_the_work_is() {
     assert!(ran.text().contains("1 of 2 files"), "{}", ran.text());
     assert!(ran
         .text()
-        .contains("2 files: 2 aged, 0 refused, 0 failed; 16 bytes freed"));
+        .contains("2 files: 2 aged, 0 refused, 0 failed; 8 fixes to 6, 84 bytes to 68"));
 }
 
 #[test]

@@ -31,7 +31,7 @@ fn help_is_printed_for_the_command_and_each_of_its_commands() {
 }
 
 /// Words that no command takes. There is a trail `h`.
-const WRONG: [&str; 75] = [
+const WRONG: [&str; 91] = [
     "",
     "lists h",
     "list",
@@ -39,12 +39,24 @@ const WRONG: [&str; 75] = [
     "list --tolerance 3 h",
     "list --jason h",
     "list --json --json h",
+    "list --csv --json h",
+    "list --csv --geojson h",
+    "list --geojson --json h",
+    "list --csv=1 h",
     "check",
     "write h",
     "write -o t",
     "write h -o",
     "write --json h -o -",
     "write --millimetres=1 h -o t",
+    "write --split h -o -",
+    "write --split h -o=",
+    "write --split=1 h -o t",
+    "write --epoch 06:00 h -o t",
+    "write missing h -o h",
+    "write missing h -o -",
+    "write h h -o t/",
+    "write h - -o t/",
     "write --anchors=1 h -o t",
     "age --anchors --days 3 h",
     "age --millimetres --days 3 h",
@@ -70,6 +82,10 @@ const WRONG: [&str; 75] = [
     "age --tolerance 5 --days 5 h",
     "age --days 1.5 h",
     "age --days 5 h h -o t",
+    "age --days 5 h missing -o h",
+    "age --days 5 h missing -o -",
+    "age --days 5 h missing -o .",
+    "age --days 5 h - -o t",
     "age --days 5 -",
     "age --days 5 h -",
     "age --days 5 --json h -o -",
@@ -357,9 +373,13 @@ fn words_that_are_not_utf8_are_no_crash() {
 }
 
 /// Words that may follow each other in any way.
-const WORDS: [&str; 32] = [
+const WORDS: [&str; 37] = [
     "--json",
     "--force",
+    "--split",
+    "--dry-run",
+    "--csv",
+    "--epoch=06:00:00",
     "--millimetres",
     "--silence-after=3",
     "--days=3",
@@ -380,6 +400,7 @@ const WORDS: [&str; 32] = [
     "h",
     "missing",
     "new",
+    "folder/",
     "0",
     "5",
     "12",
