@@ -148,6 +148,9 @@ mod tests {
         assert_eq!(cut(&[7]), [(vec![7], true)]);
         let two = [(vec![0, 65_535], false), (vec![65_535, 65_536], true)];
         assert_eq!(cut(&[0, 65_535, 65_536]), two);
+        // the last second that fits is taken, and the next isn't
+        let three = [(vec![0, 1, 65_535], false), (vec![65_535, 65_536], true)];
+        assert_eq!(cut(&[0, 1, 65_535, 65_536]), three);
         // a leg that fits no record is one for itself, and so is what goes back
         let long = [(vec![0, 70_000], false), (vec![70_000, 70_001], true)];
         assert_eq!(cut(&[0, 70_000, 70_001]), long);

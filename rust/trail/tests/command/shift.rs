@@ -97,6 +97,24 @@ fn a_silence_between_two_records_is_in_the_second() {
     assert_eq!(folder.get("out/t-002.trail"), second);
 }
 
+/// The last second that fits a record is still in it.
+#[test]
+fn a_record_of_a_split_has_up_to_65535_seconds() {
+    let folder = Folder::new();
+    for kind in KINDS {
+        let fix = |t: u32| Fix::from((t, 1, 2, 0));
+        let all = [5, 6, 65_540, 65_541].map(fix);
+        folder.put("t", text(kind, &all));
+        folder
+            .run_line(&write(kind, "--split t -o c"))
+            .says("t: 4 fixes in 2 trails, c-001 to c-002\n");
+        for (name, part) in [("c-001", &all[..3]), ("c-002", &all[2..])] {
+            let expected = Trail::never_thinned(kind, part.to_vec()).bytes();
+            assert_eq!(folder.get(name), expected, "{}", kind.name);
+        }
+    }
+}
+
 #[test]
 fn a_refused_split_stores_nothing() {
     let folder = Folder::new();
@@ -444,7 +462,7 @@ fn a_dry_run_takes_no_lock_and_waits_for_nobody() {
     folder
         .run_line("age --dry-run --tolerance 12 h")
         .says("h: would keep 3 of 4 fixes, measured 3, mark 12 cm, would free 8 bytes\n");
-    let line = "mkfifo pipe && \"$@\"";
+    let line = "mkfifo pipe && timeout 20 \"$@\"";
     let ran = folder.run_in_shell(line, &["age", "--dry-run", "--days", "7", "pipe"]);
     ran.fails(3, "pipe: it isn't a plain file");
 }

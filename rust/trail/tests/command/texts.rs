@@ -337,6 +337,13 @@ fn columns_that_are_unknown_missing_or_at_odds_are_bad() {
             3,
             "the first line names 4 columns, and here stand 3 fields".into(),
         ),
+        // a silence that no column has isn't passed over
+        (
+            "",
+            "t,x,y\n1,2,3,1\n",
+            2,
+            "the first line names 3 columns, and here stand 4 fields".into(),
+        ),
         (
             "",
             "y,x,t\n1,2,3\nt,2,3\n",
