@@ -11,7 +11,7 @@ use crate::arguments::{Arguments, Command};
 use crate::failure::{Failure, Status};
 use crate::files::Inputs;
 use crate::json::Json;
-use crate::many::Ends;
+use crate::many::{Ends, Summary};
 use crate::outputs::{keep_apart, Outputs};
 use crate::progress::Progress;
 use crate::store::store;
@@ -230,9 +230,12 @@ impl Ages {
                 heard = heard.and(self.tell(name, target, &aged));
             }
         }
-        let (counts, text) = ([("aged", sums.files)], sums.text(self.dry));
-        let told = ends.tell_with(&counts, &text, sums.fields(self.dry), self.json);
-        heard.and(told)
+        let summary = Summary {
+            counts: vec![("aged", sums.files)],
+            more: sums.text(self.dry),
+            fields: sums.fields(self.dry),
+        };
+        heard.and(ends.tell(summary, self.json))
     }
 }
 
