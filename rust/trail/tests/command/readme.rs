@@ -8,15 +8,16 @@ use trails_tests::programs::project;
 
 use crate::folder::{Folder, PROGRAM};
 
-/// The walk's lines, each with what it prints.
+/// The lines of both walks, one after the other, each with what it prints.
 fn walk() -> Vec<(String, String)> {
     let readme = fs::read_to_string(project().join("README.md")).expect("it is there");
-    let (_, section) = readme
+    let (_, sections) = readme
         .split_once("\n## The command\n")
         .expect("its section");
-    let (section, _) = section.split_once("\n## ").expect("the next");
+    let (sections, _) = sections.split_once("\n## Map\n").expect("the next");
+    assert_eq!(sections.matches("\n## ").count(), 1, "A shift");
     let mut walk: Vec<(String, String)> = Vec::new();
-    for line in section.lines().filter_map(|line| line.strip_prefix("    ")) {
+    for line in sections.lines().filter_map(|line| line.strip_prefix("    ")) {
         match (line.strip_prefix("# "), walk.last_mut()) {
             (Some(printed), Some((_, all))) => all.extend([printed, "\n"]),
             _ => walk.push((line.to_string(), String::new())),
