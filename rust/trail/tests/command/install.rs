@@ -228,20 +228,34 @@ const EVERY_KIND: &str = r#"
     PATH=$1/bin:$PATH
     trail --version
     for kind in cm mm gap; do
-        trail check $kind
+        trail check --epoch 06:00:00 $kind
         trail list $kind > $kind.list
+        trail list --csv --epoch 06:00:00 $kind > $kind.csv
+        trail list --geojson $kind > $kind.geojson
+        trail list --json $kind
         trail place $kind 5
         trail cross $kind --box 0 9 -1 1 --window 0 30
+        trail cross $kind --box 0 9 -1 1 --within --all --epoch 06:00:00
         trail near $kind --point 0 5 --radius 5
         echo 'tolerance 5' | trail replay $kind - > $kind.replay
         trail plot $kind -o $kind.svg
+        trail age --dry-run --days 7 $kind
         trail age --days 7 $kind -o $kind.aged
-        trail plot $kind.aged --original $kind -o $kind.aged.svg
+        trail plot $kind.aged --original $kind --epoch 06:00:00 -o $kind.aged.svg
+        trail write --split --epoch 06:00:00 $kind.csv -o $kind.again
+        cmp $kind $kind-001.again
     done
-    sed -n 's/^fix //p' cm.list | trail write - -o cm.again
-    sed -n 's/^fix //p' mm.list | trail write --millimetres - -o mm.again
-    sed -n 's/^fix //p' gap.list | trail write - -o gap.again
+    trail write cm.list -o cm.again
+    trail write --millimetres mm.list -o mm.again
+    trail write gap.list -o gap.again
     for kind in cm mm gap; do cmp $kind $kind.again; done
+    trail place cm mm gap 30 --within 2> place.err
+    trail cross cm mm gap --box 0 9 -1 1 --within 2> cross.err
+    trail near cm mm gap --point 0 5 --radius 5 2> near.err
+    trail age --tolerance 5 cm mm gap -o aged/ 2> age.err
+    trail write cm.csv mm.csv gap.csv --epoch 06:00:00 -o again/ 2> write.err
+    for kind in cm mm gap; do cmp $kind again/$kind.trail; done
+    trail plot cm gap --box 0 9 -1 1 --within -o both.svg
     trail dearest 64 -o dear
     trail table > table
     trail completion | cmp - "$1/share/bash-completion/completions/trail"
