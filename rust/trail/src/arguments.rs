@@ -183,6 +183,19 @@ impl Arguments {
         Ok(numbers.and_then(|numbers| numbers.into_iter().next()))
     }
 
+    /// What an option's word stands for, if it is given and one of these.
+    pub fn one_of<V: Copy>(&self, name: &str, all: &[(&str, V)]) -> Result<Option<V>, Failure> {
+        let meant = |word: &str| {
+            let found = all.iter().find(|(name, _)| *name == word);
+            found.map(|(_, value)| *value).ok_or_else(|| {
+                let names: Vec<&str> = all.iter().map(|(name, _)| *name).collect();
+                format!("{} isn't one of {}", words::quoted(word), names.join(", "))
+            })
+        };
+        let values = self.values(name, meant)?;
+        Ok(values.and_then(|values| values.into_iter().next()))
+    }
+
     /// The clock that `--epoch` sets, or none.
     pub fn clock(&self) -> Result<Clock, Failure> {
         let clocks = self.values("--epoch", Clock::with_epoch)?;

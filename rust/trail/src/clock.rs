@@ -12,7 +12,7 @@ use trails::Moment;
 use crate::numbers::{whole, Range};
 use crate::words;
 
-const DAY: i64 = 86_400;
+pub const DAY: i64 = 86_400;
 
 /// What a time may look like, for messages.
 const FORMS: &str = "a time like 06:30:00, 06:30:00+1d or 2026-11-17T06:30:00";
@@ -120,6 +120,23 @@ impl Given {
     }
 }
 
+impl Epoch {
+    fn day_and_time(self, second: u32) -> (String, String) {
+        let all = self.time + i64::from(second);
+        let (days, time) = (all / DAY, all % DAY);
+        let (hours, minutes, seconds) = (time / 3_600, time / 60 % 60, time % 60);
+        let day = match (self.date, days) {
+            (Some(first), _) => {
+                let (year, month, day) = date_of(first + days);
+                format!("{year:04}-{month:02}-{day:02}")
+            }
+            (None, 0) => String::new(),
+            (None, days) => format!("+{days}d"),
+        };
+        (day, format!("{hours:02}:{minutes:02}:{seconds:02}"))
+    }
+}
+
 impl Clock {
     /// The clock on which second 0 was at this time, which may have a date.
     pub fn with_epoch(word: &str) -> Result<Clock, String> {
@@ -178,24 +195,27 @@ impl Clock {
 
     /// A second's time, with this after its seconds.
     fn time(self, second: u32, part: &str) -> String {
-        let Epoch { date, time } = self.0.unwrap_or_default();
-        let all = time + i64::from(second);
-        let (days, time) = (all / DAY, all % DAY);
-        let (hours, minutes, seconds) = (time / 3_600, time / 60 % 60, time % 60);
-        let time = format!("{hours:02}:{minutes:02}:{seconds:02}{part}");
-        match (date, days) {
-            (Some(first), _) => {
-                let (year, month, day) = date_of(first + days);
-                format!("{year:04}-{month:02}-{day:02}T{time}")
-            }
-            (None, 0) => time,
-            (None, days) => format!("{time}+{days}d"),
+        let epoch = self.0.unwrap_or_default();
+        let (day, time) = epoch.day_and_time(second);
+        match epoch.date {
+            Some(_) => format!("{day}T{time}{part}"),
+            None => format!("{time}{part}{day}"),
         }
     }
 
     /// Whether seconds are told on a clock, and not as numbers.
     pub fn is_set(self) -> bool {
         self.0.is_some()
+    }
+
+    /// A second's day, nothing on that of second 0 if it has no date, and its time of day, if they are told on a clock.
+    pub fn day_and_time(self, second: u32) -> Option<(String, String)> {
+        self.0.map(|epoch| epoch.day_and_time(second))
+    }
+
+    /// How many seconds after midnight second 0 was, if that is known.
+    pub fn after_midnight(self) -> Option<i64> {
+        self.0.map(|epoch| epoch.time)
     }
 
     /// A second as people read it.

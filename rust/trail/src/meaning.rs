@@ -35,19 +35,23 @@ pub fn of_place(trail: &Trail) -> String {
     })
 }
 
+/// What a promise leaves out, if there are so many silences.
+pub fn outside(silences: usize) -> &'static str {
+    match silences {
+        0 => "",
+        1 => ", outside the silence",
+        _ => ", outside the silences",
+    }
+}
+
 /// What a promise leaves out and what isn't known, if there are so many silences; `within` says in what.
 fn silent(silences: usize, within: &str) -> (&'static str, String) {
-    match silences {
-        0 => ("", String::new()),
-        1 => (
-            ", outside the silence",
-            format!("; of the silence{within} nothing is known"),
-        ),
-        many => (
-            ", outside the silences",
-            format!("; of the {many} silences{within} nothing is known"),
-        ),
-    }
+    let unknown = match silences {
+        0 => String::new(),
+        1 => format!("; of the silence{within} nothing is known"),
+        many => format!("; of the {many} silences{within} nothing is known"),
+    };
+    (outside(silences), unknown)
 }
 
 /// Of a crossing: told, or denied, in a window that has so many silences.

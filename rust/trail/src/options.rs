@@ -48,6 +48,7 @@ pub static OPTIONS: &[Choice] = &[
     choice("--point", &["X", "Y"], Some(Range::Places(None))),
     choice("--radius", &["R"], Some(Range::Radii)),
     choice("--original", &["FILE"], None),
+    choice("--zoom", &["TO"], None),
     choice("-o", &["OUT"], None),
 ];
 

@@ -1,22 +1,37 @@
-//! `trail plot`: draws a trail.
+//! `trail plot`: draws a trail, or several.
 
+mod arrows;
+mod drawn;
+mod extent;
+mod layers;
+mod legend;
+mod names;
+mod original;
+mod over_time;
 mod panel;
+mod path;
 mod picture;
+mod plane;
 mod scale;
+mod style;
 mod svg;
+mod text;
+mod times;
 
 use std::ffi::{OsStr, OsString};
 use std::path::Path;
 
-use trails::{Approach, Area, Crossing, Refusal, Window};
+use trails::{Refusal, Unit};
 
 use crate::arguments::{Arguments, Command};
 use crate::failure::{Failure, Status};
 use crate::store::store;
 use crate::trail::Trail;
 use crate::{files, words};
+use drawn::{Drawn, Questions};
+use original::Original;
 use panel::Circle;
-use picture::Picture;
+use picture::{Picture, Zoom};
 
 pub const COMMAND: Command = Command {
     name: "plot",
@@ -25,9 +40,11 @@ pub const COMMAND: Command = Command {
         "--original",
         "--box",
         "--window",
+        "--within",
         "--point",
         "--radius",
         "--tolerance",
+        "--zoom",
         "--epoch",
         "-o",
         "--force",
@@ -36,53 +53,39 @@ pub const COMMAND: Command = Command {
 };
 
 const HELP: &str = "\
-usage: trail plot FILE [--original FILE] [--box X0 X1 Y0 Y1] [--window S E]
-                  [--point X Y --radius R] [--tolerance E] [--force]
-                  -o OUT.svg
+usage: trail plot FILE... [--original FILE] [--tolerance E]
+                  [--box X0 X1 Y0 Y1] [--window S E [--within]]
+                  [--point X Y --radius R] [--zoom TO] [--epoch TIME]
+                  [--force] -o OUT.svg
 
-Draws FILE's trail on the plane and, below, x and y against time, with its
-kept fixes marked. A silence is left open, with a ring at both its ends. The
-picture suits light and dark backgrounds.
+Draws FILE's trail on the plane, with arrows where it goes, and below that x and
+y against time; its kept fixes are marked unless they are very many. A silence
+is left open, with a ring at both its ends. Several trails, all in one unit,
+have a colour each, and their names stand beside the answers. The picture is 800
+pixels wide and suits light and dark backgrounds.
 
-  --original FILE  draw this trail under it, which is in the same unit
+  --original FILE  draw the one trail's original over it, in dashes; it must
+                   have the trail's ends, fixes and silences
   --tolerance E    draw a band of E, in the trail's unit, around it; if not
                    given, it is the trail's mark, and none if it was never
                    thinned
   --box X0 X1 Y0 Y1, --window S E
-                   draw the box and the window, and mark where the trail is
-                   first in the box; without --window that is asked of all its
+                   draw the box and the window, also as a broad line on the
+                   plane, and mark where the trail is first in the box, or say
+                   that it never is; without --window that is asked of all its
                    seconds
+  --within         cut the window to each trail's own times
   --point X Y --radius R
                    draw the point and the circle about it, and mark where the
                    trail is closest to it on the first leg that comes into the
-                   circle
+                   circle, or say that none does
+  --zoom TO        show only the 'window', the 'box' or, for the circle, the
+                   'point'
+  --epoch TIME     tell seconds on the clock; see 'trail help'
   -o OUT.svg       where the picture goes; '-' is the standard output
   --force          let the picture replace a trail, but never one that it
                    draws
 ";
-
-/// When the trail is first in the box. What isn't given is all there is, so that a bad box or window is refused even if
-/// it stands alone.
-fn first_in(
-    trail: &Trail,
-    area: Option<Area>,
-    window: Option<Window>,
-) -> Result<Option<Crossing>, Refusal> {
-    let most = trail.unit().limits().place;
-    let hall = Area {
-        left: -most,
-        right: most,
-        bottom: -most,
-        top: most,
-    };
-    let always = Window {
-        start: trail.first(),
-        end: trail.last(),
-    };
-    let (asked, window) = (area.unwrap_or(hall), window.unwrap_or(always));
-    let first = trails::crosses(&trail.bytes, asked, window)?;
-    Ok(first.filter(|_| area.is_some()))
-}
 
 /// The point and the radius, which go together.
 fn circle(arguments: &Arguments) -> Result<Option<Circle>, Failure> {
@@ -93,21 +96,12 @@ fn circle(arguments: &Arguments) -> Result<Option<Circle>, Failure> {
     }
 }
 
-/// When the trail is closest to the point on the first leg that comes into the circle.
-fn closest(trail: &Trail, circle: Option<Circle>) -> Result<Option<Approach>, Refusal> {
-    match circle {
-        Some(Circle { point, radius }) => trails::near(&trail.bytes, point, radius),
-        None => Ok(None),
-    }
-}
-
-/// The file's name without its folders, as far as a line has room for it.
+/// The file's name without its folders.
 fn title(name: &OsStr) -> String {
-    let shown = match Path::new(name).file_name() {
+    match Path::new(name).file_name() {
         Some(last) if name != "-" => words::harmless(last),
         _ => words::shown(name),
-    };
-    shown.chars().take(80).collect()
+    }
 }
 
 /// The tolerance whose band is drawn.
@@ -131,41 +125,101 @@ fn output_of<'a>(arguments: &'a Arguments, drawn: &[&OsStr]) -> Result<&'a OsStr
     Ok(to)
 }
 
-fn run(arguments: &Arguments) -> Result<Status, Failure> {
-    let [name]: &[OsString; 1] = arguments.exactly("one file")?;
-    let (area, window) = (arguments.area()?, arguments.window()?);
-    let circle = circle(arguments)?;
-    let other = arguments.file("--original");
-    let drawn: Vec<&OsStr> = [Some(name.as_os_str()), other]
+/// What all trails are asked.
+fn questions(arguments: &Arguments) -> Result<Questions, Failure> {
+    let window = arguments.window()?;
+    let within = arguments.has("--within");
+    if within && window.is_none() {
+        return Err(arguments.wrong("--within goes with --window S E"));
+    }
+    Ok(Questions {
+        area: arguments.area()?,
+        window,
+        within,
+        circle: circle(arguments)?,
+    })
+}
+
+/// What the axes show, which must be there.
+fn zoom(arguments: &Arguments, questions: &Questions) -> Result<Option<Zoom>, Failure> {
+    let all = [
+        ("window", Zoom::Window),
+        ("box", Zoom::Box),
+        ("point", Zoom::Point),
+    ];
+    let zoom = arguments.one_of("--zoom", &all)?;
+    let missing = match zoom {
+        Some(Zoom::Window) if questions.window.is_none() => "--zoom window goes with --window S E",
+        Some(Zoom::Box) if questions.area.is_none() => "--zoom box goes with --box X0 X1 Y0 Y1",
+        Some(Zoom::Point) if questions.circle.is_none() => {
+            "--zoom point goes with --point X Y and --radius R"
+        }
+        _ => return Ok(zoom),
+    };
+    Err(arguments.wrong(missing))
+}
+
+/// Reads all trails, which are in one unit, and asks them.
+fn read(arguments: &Arguments, questions: &Questions) -> Result<Vec<Drawn>, Failure> {
+    let clock = arguments.clock()?;
+    let names = arguments.words.iter();
+    let trails: Result<Vec<Trail>, Failure> = names.map(|name| Trail::read(name, clock)).collect();
+    let trails = trails?;
+    let units = trails.iter().zip(trails.iter().skip(1));
+    if units
         .into_iter()
-        .flatten()
-        .collect();
+        .any(|(one, other)| one.unit() != other.unit())
+    {
+        return Err(arguments.wrong("the trails are in different units"));
+    }
+    let ask = |trail: Trail| {
+        let tolerance = band(arguments, &trail)?;
+        Drawn::ask(title(&trail.name), trail, questions, tolerance)
+    };
+    trails.into_iter().map(ask).collect()
+}
+
+/// The original, which must be that of the trail.
+fn read_original(arguments: &Arguments, drawn: &[Drawn]) -> Result<Option<Original>, Failure> {
+    let Some(name) = arguments.file("--original") else {
+        return Ok(None);
+    };
+    let [of] = drawn else {
+        return Err(arguments.wrong("--original goes with one trail"));
+    };
+    let original = Trail::read(name, arguments.clock()?)?;
+    match original::differs(&of.trail, &original) {
+        Some(what) => Err(arguments.wrong(&what)),
+        None => Ok(Some(Original::of(&of.trail, original))),
+    }
+}
+
+fn run(arguments: &Arguments) -> Result<Status, Failure> {
+    let names = arguments.several("one file or more")?;
+    let questions = questions(arguments)?;
+    let zoom = zoom(arguments, &questions)?;
+    let original = arguments.file("--original");
+    let names = names.iter().map(OsString::as_os_str);
+    let drawn: Vec<&OsStr> = names.chain(original).collect();
     arguments.can_read(drawn.iter().copied())?;
     let to = output_of(arguments, &drawn)?;
-    let clock = arguments.clock()?;
-    let trail = Trail::read(name, clock)?;
-    let original = other.map(|name| Trail::read(name, clock)).transpose()?;
-    let differs = |original: &Trail| original.unit() != trail.unit();
-    if original.as_ref().is_some_and(differs) {
-        return Err(arguments.wrong("the trail and the original are in different units"));
-    }
-    let tolerance = band(arguments, &trail)?;
-    let refused = |refusal| trail.refused(refusal);
-    let first = first_in(&trail, area, window).map_err(refused)?;
-    let closest = closest(&trail, circle).map_err(refused)?;
-    let starts = [Some(&trail), original.as_ref()].into_iter().flatten();
+    let trails = read(arguments, &questions)?;
+    let original = read_original(arguments, &trails)?;
+    let firsts = trails.iter().map(|drawn| drawn.trail.first());
     let picture = Picture {
-        start: starts.map(Trail::first).min().unwrap_or(0),
-        title: title(name),
-        unit: trail.unit(),
-        trail: trail.fixes,
-        original: original.map(|original| original.fixes),
-        tolerance,
-        area,
-        window,
-        first,
-        circle,
-        closest,
+        title: match trails.as_slice() {
+            [one] => one.name.clone(),
+            many => format!("{} trails", many.len()),
+        },
+        start: firsts.min().unwrap_or(0),
+        unit: trails
+            .first()
+            .map_or(Unit::Centimetres, |of| of.trail.unit()),
+        clock: arguments.clock()?,
+        trails,
+        original,
+        questions,
+        zoom,
     };
     store(to, &drawn, picture.svg().as_bytes())?;
     Ok(Status::Done)

@@ -7,6 +7,11 @@ pub struct Interval {
     pub high: f64,
 }
 
+/// Round steps: 1, 2 or 5 times a power of ten.
+pub fn round_steps() -> impl Iterator<Item = i64> {
+    (0..18).flat_map(|k| [1, 2, 5].map(|unit| unit * 10_i64.pow(k)))
+}
+
 impl Interval {
     /// The shortest that has all these values, or the one at 0 if there are none.
     pub fn of(values: impl Iterator<Item = f64>) -> Interval {
@@ -37,6 +42,10 @@ impl Interval {
         self.high - self.low
     }
 
+    pub fn contains(&self, value: f64) -> bool {
+        (self.low..=self.high).contains(&value)
+    }
+
     fn middle(&self) -> f64 {
         (self.low + self.high) / 2.0
     }
@@ -54,9 +63,9 @@ impl Interval {
         }
     }
 
-    /// Round numbers in the interval, at most so many: multiples of 1, 2 or 5 times a power of ten.
+    /// Round numbers in the interval, at most so many.
     pub fn ticks(&self, most: usize) -> Vec<i64> {
-        let mut steps = (0..18).flat_map(|k| [1, 2, 5].map(|unit| unit * 10_i64.pow(k)));
+        let mut steps = round_steps();
         // an interval of so many steps, and less than one more, has at most one tick more than that
         let whole_steps = |step: &i64| (self.length() / *step as f64) as usize;
         let step = steps.find(|step| whole_steps(step) < most);
@@ -87,6 +96,11 @@ impl Axis {
     pub fn at(&self, value: f64) -> f64 {
         let off = (value - self.interval.middle()) * self.scale();
         (self.from + self.to) / 2.0 + (10.0 * off).round() / 10.0
+    }
+
+    /// How long it is in the picture.
+    pub fn drawn(&self) -> f64 {
+        (self.to - self.from).abs()
     }
 
     /// How much room a length takes.

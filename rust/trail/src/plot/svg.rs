@@ -2,6 +2,8 @@
 
 use std::fmt::Write as _;
 
+use super::style::STYLE;
+
 /// A place in the picture.
 pub type Spot = (f64, f64);
 
@@ -12,50 +14,6 @@ pub enum Anchor {
     Middle,
     End,
 }
-
-/// How things look, on a light ground and, where the viewer asks for it, on a dark one. Viewers that know nothing of
-/// that show the light picture, on its own ground.
-const STYLE: &str = "\
-text{font:12px sans-serif;fill:#1b1f24}
-.name{font-size:17px;font-weight:bold}
-.soft{fill:#57606a}
-.ground{fill:#ffffff}
-.frame{fill:none;stroke:#8c959f}
-.grid{stroke:#e4e7eb}
-.window{fill:#57606a;fill-opacity:.13;stroke:#57606a;stroke-opacity:.4}
-.band{fill:none;stroke:#0b5fbf;stroke-opacity:.16;stroke-linecap:round;stroke-linejoin:round}
-.within{fill:#0b5fbf;fill-opacity:.16}
-.original{fill:none;stroke:#77818c;stroke-width:1.2;stroke-linejoin:round}
-.trail{fill:none;stroke:#0b5fbf;stroke-width:1.8;stroke-linejoin:round}
-.fix{fill:#ffffff;stroke:#0b5fbf;stroke-width:1.4}
-.silence{fill:none;stroke:#8250df;stroke-width:1.4}
-.box{fill:#b45309;fill-opacity:.12;stroke:#b45309;stroke-width:1.4}
-.near{fill:#1a7f37;fill-opacity:.1;stroke:#1a7f37;stroke-width:1.2}
-.point{stroke:#1a7f37;stroke-width:1.6}
-.reach{stroke:#1a7f37;stroke-width:1.2;stroke-dasharray:4 3}
-.first{fill:#c4201d;stroke:#ffffff}
-.closest{fill:#1a7f37;stroke:#ffffff}
-@media (prefers-color-scheme:dark){
-text{fill:#e6e9ee}
-.soft{fill:#9aa5b1}
-.ground{fill:#12161b}
-.frame{stroke:#5b6570}
-.grid{stroke:#262d35}
-.window{fill:#c3ccd6;stroke:#c3ccd6}
-.band{stroke:#6cb2ff;stroke-opacity:.22}
-.within{fill:#6cb2ff;fill-opacity:.22}
-.original{stroke:#a3adb8}
-.trail{stroke:#6cb2ff}
-.fix{fill:#12161b;stroke:#6cb2ff}
-.silence{stroke:#c297ff}
-.box{fill:#f0a54a;stroke:#f0a54a}
-.near{fill:#57c26b;stroke:#57c26b}
-.point{stroke:#57c26b}
-.reach{stroke:#57c26b}
-.first{fill:#ff7b72;stroke:#12161b}
-.closest{fill:#57c26b;stroke:#12161b}
-}
-";
 
 pub struct Svg {
     text: String,
@@ -98,10 +56,11 @@ impl Svg {
         ));
     }
 
-    /// A rectangle between two opposite corners.
+    /// A rectangle between two opposite corners. One without width or height would not be drawn at all, its edge neither:
+    /// it gets a tenth.
     pub fn rectangle(&mut self, class: &str, one: Spot, other: Spot) {
         let (x, y) = (one.0.min(other.0), one.1.min(other.1));
-        let (width, height) = ((one.0 - other.0).abs(), (one.1 - other.1).abs());
+        let [width, height] = [one.0 - other.0, one.1 - other.1].map(|far| far.abs().max(0.1));
         self.add(&format!(
             "<rect class=\"{class}\" x=\"{x:.1}\" y=\"{y:.1}\" width=\"{width:.1}\" height=\"{height:.1}\"/>"
         ));
@@ -127,6 +86,13 @@ impl Svg {
         self.add(&format!(
             "<polyline class=\"{class}\" stroke-width=\"{width:.1}\" points=\"{points}\"/>"
         ));
+    }
+
+    /// Draws what `draw` does, with these classes around it.
+    pub fn group(&mut self, classes: &str, draw: impl FnOnce(&mut Svg)) {
+        self.add(&format!("<g class=\"{classes}\">"));
+        draw(self);
+        self.add("</g>");
     }
 
     pub fn area(&mut self, class: &str, spots: impl Iterator<Item = Spot>) {

@@ -1,0 +1,215 @@
+//! A trail that is drawn, and what it answers.
+//!
+//! Where the cart was at a time that is marked is asked of the proved `place`: the picture has no straight lines of its
+//! own reckoning, and none across a silence.
+
+use trails::{AnyFix, Area, Moment, Refusal, Window};
+
+use crate::clock;
+use crate::failure::Failure;
+use crate::meaning;
+use crate::trail::{stretches, Trail};
+
+use super::panel::Circle;
+
+/// A moment of a trail, and where the cart was then.
+#[derive(Clone, Copy)]
+pub struct Placed {
+    pub moment: Moment,
+    pub x: f64,
+    pub y: f64,
+}
+
+impl From<&AnyFix> for Placed {
+    fn from(fix: &AnyFix) -> Placed {
+        Placed {
+            moment: at_second(fix.t),
+            x: fix.x.into(),
+            y: fix.y.into(),
+        }
+    }
+}
+
+pub fn at_second(second: u32) -> Moment {
+    Moment {
+        second,
+        thousandths: 0,
+    }
+}
+
+/// Where a trail is at a moment, which isn't inside a silence.
+pub fn placed(trail: &Trail, moment: Moment) -> Option<Placed> {
+    let place = trails::place(&trail.bytes, moment).ok()?;
+    let of = |coordinate: i64| coordinate as f64 / f64::from(place.denominator.max(1));
+    Some(Placed {
+        moment,
+        x: of(place.x),
+        y: of(place.y),
+    })
+}
+
+/// What all trails of a picture are asked.
+#[derive(Clone, Copy)]
+pub struct Questions {
+    pub area: Option<Area>,
+    pub window: Option<Window>,
+    /// whether the window is cut to each trail's own times
+    pub within: bool,
+    pub circle: Option<Circle>,
+}
+
+impl Questions {
+    /// The window that a trail is asked about: none if it has no time of it. A window that is none is refused as it is.
+    fn window_of(&self, trail: &Trail) -> Option<Window> {
+        let (first, last) = (trail.first(), trail.last());
+        let always = Window {
+            start: first,
+            end: last,
+        };
+        let asked = self.window.unwrap_or(always);
+        if !self.within || asked.start > asked.end {
+            return Some(asked);
+        }
+        let (start, end) = (asked.start.max(first), asked.end.min(last));
+        (start <= end).then_some(Window { start, end })
+    }
+}
+
+/// What is said of an answer and, of a yes, what is marked.
+pub struct Answer {
+    pub words: String,
+    pub mark: Option<Placed>,
+}
+
+impl Answer {
+    fn no(words: String) -> Answer {
+        Answer { words, mark: None }
+    }
+
+    /// A yes at a time, cut as the answers of `cross` and `near` are.
+    fn yes(trail: &Trail, words: &str, numerator: u64, denominator: u64) -> Answer {
+        let moment = clock::cut(trail.first(), numerator, denominator);
+        Answer {
+            words: format!("{words} at {}", trail.clock.show_moment(moment)),
+            mark: placed(trail, moment),
+        }
+    }
+}
+
+pub struct Drawn {
+    pub name: String,
+    pub trail: Trail,
+    /// the tolerance whose band is drawn
+    pub tolerance: Option<u16>,
+    /// the part of the window that it has
+    pub window: Option<Window>,
+    /// whether it is in the box
+    pub crossing: Option<Answer>,
+    /// whether it comes near the point
+    pub approach: Option<Answer>,
+}
+
+/// Whether the trail is in the box. What isn't given is all there is, so that a bad box or window is refused even if it
+/// stands alone.
+fn crossing(
+    trail: &Trail,
+    questions: &Questions,
+    window: Window,
+) -> Result<Option<Answer>, Refusal> {
+    let most = trail.unit().limits().place;
+    let hall = Area {
+        left: -most,
+        right: most,
+        bottom: -most,
+        top: most,
+    };
+    let area = questions.area.unwrap_or(hall);
+    let first = trails::crosses(&trail.bytes, area, window)?;
+    let answer = match first {
+        Some(first) => {
+            let denominator = first.denominator.into();
+            Answer::yes(trail, "first in the box", first.numerator, denominator)
+        }
+        None => {
+            let within = questions.window.map_or("", |_| " in the window");
+            let outside = meaning::outside(trail.silences_in(window));
+            Answer::no(format!("never in the box{within}{outside}"))
+        }
+    };
+    Ok(questions.area.map(|_| answer))
+}
+
+/// Whether the trail comes near the point, and when it is closest on the first leg that does.
+fn approach(trail: &Trail, circle: Option<Circle>) -> Result<Option<Answer>, Refusal> {
+    let Some(circle) = circle else {
+        return Ok(None);
+    };
+    let closest = trails::near(&trail.bytes, circle.point, circle.radius)?;
+    Ok(Some(match closest {
+        Some(on) => {
+            let words = format!("closest on leg {}", on.leg);
+            Answer::yes(trail, &words, on.numerator, on.denominator)
+        }
+        None => {
+            let near = circle.words(trail.unit());
+            let outside = meaning::outside(trail.silences().count());
+            Answer::no(format!("never {near}{outside}"))
+        }
+    }))
+}
+
+impl Drawn {
+    /// Asks a trail.
+    pub fn ask(
+        name: String,
+        trail: Trail,
+        questions: &Questions,
+        tolerance: Option<u16>,
+    ) -> Result<Drawn, Failure> {
+        let refused = |refusal| trail.refused(refusal);
+        let window = questions.window_of(&trail);
+        let crossing = match window {
+            Some(window) => crossing(&trail, questions, window).map_err(refused)?,
+            None => {
+                let answer = || Answer::no("no time in the window".into());
+                questions.area.map(|_| answer())
+            }
+        };
+        Ok(Drawn {
+            name,
+            approach: approach(&trail, questions.circle).map_err(refused)?,
+            crossing,
+            window: window.filter(|_| questions.window.is_some()),
+            tolerance,
+            trail,
+        })
+    }
+
+    /// Where it is marked, each with its class.
+    pub fn marks(&self) -> impl Iterator<Item = (&'static str, Placed)> + '_ {
+        let answers = [("first", &self.crossing), ("closest", &self.approach)];
+        let marks = answers.into_iter();
+        marks.filter_map(|(class, answer)| Some((class, answer.as_ref()?.mark?)))
+    }
+
+    /// What of it is in the window: a line for each stretch that has some of it. Where the window begins or ends inside
+    /// a silence, the line begins or ends with the stretch.
+    pub fn in_window(&self) -> impl Iterator<Item = Vec<Placed>> + '_ {
+        let stretches = stretches(&self.trail.fixes);
+        stretches.filter_map(|stretch| self.part(stretch, self.window?))
+    }
+
+    fn part(&self, stretch: &[AnyFix], window: Window) -> Option<Vec<Placed>> {
+        let (first, last) = (stretch.first()?.t, stretch.last()?.t);
+        let (from, to) = (first.max(window.start), last.min(window.end));
+        if from > to {
+            return None;
+        }
+        let end = |second| placed(&self.trail, at_second(second));
+        let start = (first < from).then(|| end(from)).flatten();
+        let fixes = stretch.iter().filter(|fix| (from..=to).contains(&fix.t));
+        let end = (to < last).then(|| end(to)).flatten();
+        let all = start.into_iter().chain(fixes.map(Placed::from));
+        Some(all.chain(end).collect())
+    }
+}
