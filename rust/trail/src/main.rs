@@ -82,7 +82,7 @@ usage: trail COMMAND ARGUMENTS
   cross    say which carts were in a box, and when first, or when at all
   near     say which carts came near a point, and when
   replay   try a list of agings on a trail, and print what each does
-  plot     draw a trail
+  plot     draw a trail, or several
 
   manual      print the manual page
   completion  print what bash completes the words of trail by

@@ -9,6 +9,7 @@ use super::original::Original;
 use super::panel::Panel;
 use super::path::{inside, spaced, wider};
 use super::picture::{Frame, Picture};
+use super::scale::Interval;
 use super::style;
 use super::svg::{Spot, Svg};
 
@@ -22,9 +23,10 @@ pub const BEYOND: f64 = 20.0;
 /// How great the marks of answers are.
 pub const MARK: f64 = 5.0;
 
-/// A panel, and where it has a place.
+/// A panel, where it has a place, and which times are shown.
 pub struct View<'a> {
     pub panel: &'a Panel,
+    pub times: Interval,
     pub spot: &'a dyn Fn(&Placed) -> Spot,
 }
 
@@ -75,11 +77,15 @@ impl Picture {
         }
     }
 
-    /// A trail's stretches, as far as the axes have their times: on the plane too, or what isn't in the window that is
-    /// zoomed to would hide what is.
-    pub fn stretches<'a>(&'a self, trail: &'a Trail) -> impl Iterator<Item = Vec<Placed>> + 'a {
-        let times = self.times();
-        let shown = move |stretch: &[AnyFix]| {
+    /// A trail's stretches, as far as their times are shown: on the plane too, or what isn't in the window that is zoomed
+    /// to would hide what is.
+    pub fn stretches<'a>(
+        &'a self,
+        view: &View,
+        trail: &'a Trail,
+    ) -> impl Iterator<Item = Vec<Placed>> + 'a {
+        let times = view.times;
+        stretches(&trail.fixes).map(move |stretch| {
             let time = |fix: &AnyFix| self.seconds(fix.t);
             let first = stretch.partition_point(|fix| time(fix) < times.low);
             let last = stretch.partition_point(|fix| time(fix) <= times.high);
@@ -90,14 +96,13 @@ impl Picture {
             };
             let fixes = stretch.get(first..last).unwrap_or_default();
             fixes.iter().map(Placed::from).collect()
-        };
-        stretches(&trail.fixes).map(shown)
+        })
     }
 
     /// A trail's lines, of each stretch one, and none across a silence; `width` is how far beside them is seen.
     pub fn lines_of(&self, view: &View, trail: &Trail, width: f64) -> Vec<Vec<Spot>> {
         let lines = |places: Vec<Placed>| view.lines(&places, width);
-        self.stretches(trail).flat_map(lines).collect()
+        self.stretches(view, trail).flat_map(lines).collect()
     }
 
     /// Lines of this class, without spots that nobody could tell apart.

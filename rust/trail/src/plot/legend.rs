@@ -1,11 +1,13 @@
 //! What each mark means, in rows above the panels.
 
+use trails::AnyFix;
+
 use crate::words;
 
-use super::drawn::{Answer, Drawn};
+use super::drawn::{Answer, Drawn, Placed};
 use super::layers::{draw_area, MARK, RING};
 use super::panel::{LEFT, RIGHT};
-use super::picture::Picture;
+use super::picture::{Frame, Picture};
 use super::plane::{draw_circle, draw_end, draw_start};
 use super::svg::{Anchor, Spot, Svg};
 use super::text::{width, SIZE};
@@ -59,11 +61,11 @@ fn of_one(class: &'static str, words: &str, mark: &'static str, answer: &Answer)
 }
 
 impl Legend {
-    /// The legend of a picture, with its fixes or without, from this height downward.
-    pub fn of(picture: &Picture, fixes: bool, top: f64) -> Legend {
+    /// The legend of what is shown of a picture, from this height downward.
+    pub fn of(picture: &Picture, shown: &Frame, top: f64) -> Legend {
         let (mut x, mut y) = (LEFT, top + ROW - 4.0);
         let mut meanings = Vec::new();
-        for (class, words) in picture.meanings(fixes) {
+        for (class, words) in picture.meanings(shown) {
             let room = SAMPLE + width(&words, SIZE);
             if x > LEFT && x + room > RIGHT {
                 (x, y) = (LEFT, y + ROW);
@@ -89,18 +91,26 @@ impl Legend {
 
 impl Picture {
     /// What is drawn in this picture, and what each mark means.
-    fn meanings(&self, fixes: bool) -> Vec<Meaning> {
+    fn meanings(&self, shown: &Frame) -> Vec<Meaning> {
         let one = self.trails.len() == 1;
-        let silences = !self.silence_ends().is_empty();
+        let shows = |fix: &AnyFix| self.shows(shown, &Placed::from(fix));
+        let any = |of: fn(&[AnyFix]) -> Option<&AnyFix>| {
+            let mut fixes = self
+                .trails
+                .iter()
+                .filter_map(|drawn| of(&drawn.trail.fixes));
+            fixes.any(shows)
+        };
+        let silences = self.silence_ends().into_iter().any(shows);
         let marks = [
             if_there(one, "trail", "trail"),
             if_there(self.original.is_some(), "original", "original"),
-            if_there(fixes, "fix", "kept fix"),
-            if_there(true, "start", "start"),
-            if_there(true, "end", "end"),
+            if_there(shown.radius.is_some(), "fix", "kept fix"),
+            if_there(any(|fixes| fixes.first()), "start", "start"),
+            if_there(any(|fixes| fixes.last()), "end", "end"),
             if_there(silences, "silence", "end of a silence"),
             self.band(),
-            if_there(self.questions.window.is_some(), "window", "window"),
+            self.window(),
         ];
         let near = self.questions.circle.map(|circle| circle.words(self.unit));
         let first = ("first", "first in the box");
@@ -134,6 +144,19 @@ impl Picture {
                 [(class, words.into())].into_iter().chain(mark).collect()
             }
         }
+    }
+
+    /// The window, and if the plane has nothing of it, why.
+    fn window(&self) -> Option<Meaning> {
+        self.questions.window?;
+        let known = self.trails.iter().any(|of| of.in_window().next().is_some());
+        let has_times = self.trails.iter().any(|of| of.window.is_some());
+        let words = match (known, has_times) {
+            (true, _) => "window",
+            (false, true) => "window, all of it in a silence",
+            (false, false) => "window, at other times than the trail's",
+        };
+        Some(("window", words.into()))
     }
 
     /// The band around each trail.

@@ -159,10 +159,27 @@ fn zoom(arguments: &Arguments, questions: &Questions) -> Result<Option<Zoom>, Fa
     Err(arguments.wrong(missing))
 }
 
+/// What the trails are named in the picture: without their folders, unless two would then have one name.
+fn titles(names: &[OsString]) -> Vec<String> {
+    let titles: Vec<String> = names.iter().map(|name| title(name)).collect();
+    let mut sorted = titles.clone();
+    sorted.sort();
+    sorted.dedup();
+    match sorted.len() == titles.len() {
+        true => titles,
+        false => names.iter().map(|name| words::shown(name)).collect(),
+    }
+}
+
 /// Reads all trails, which are in one unit, and asks them.
-fn read(arguments: &Arguments, questions: &Questions) -> Result<Vec<Drawn>, Failure> {
+fn read(
+    arguments: &Arguments,
+    names: &[OsString],
+    questions: &Questions,
+) -> Result<Vec<Drawn>, Failure> {
     let clock = arguments.clock()?;
-    let names = arguments.words.iter();
+    let titles = titles(names);
+    let names = names.iter();
     let trails: Result<Vec<Trail>, Failure> = names.map(|name| Trail::read(name, clock)).collect();
     let trails = trails?;
     let units = trails.iter().zip(trails.iter().skip(1));
@@ -172,25 +189,30 @@ fn read(arguments: &Arguments, questions: &Questions) -> Result<Vec<Drawn>, Fail
     {
         return Err(arguments.wrong("the trails are in different units"));
     }
-    let ask = |trail: Trail| {
+    let ask = |(trail, title): (Trail, String)| {
         let tolerance = band(arguments, &trail)?;
-        Drawn::ask(title(&trail.name), trail, questions, tolerance)
+        Drawn::ask(title, trail, questions, tolerance)
     };
-    trails.into_iter().map(ask).collect()
+    trails.into_iter().zip(titles).map(ask).collect()
 }
 
-/// The original, which must be that of the trail.
-fn read_original(arguments: &Arguments, drawn: &[Drawn]) -> Result<Option<Original>, Failure> {
-    let Some(name) = arguments.file("--original") else {
-        return Ok(None);
-    };
-    let [of] = drawn else {
-        return Err(arguments.wrong("--original goes with one trail"));
-    };
+/// The original's file, which goes with one trail.
+fn original_of<'a>(
+    arguments: &'a Arguments,
+    names: &[OsString],
+) -> Result<Option<&'a OsStr>, Failure> {
+    match (arguments.file("--original"), names.len()) {
+        (Some(_), 2..) => Err(arguments.wrong("--original goes with one trail alone")),
+        (original, _) => Ok(original),
+    }
+}
+
+/// Reads the original, which must be that of the trail.
+fn read_original(arguments: &Arguments, name: &OsStr, drawn: &Drawn) -> Result<Original, Failure> {
     let original = Trail::read(name, arguments.clock()?)?;
-    match original::differs(&of.trail, &original) {
+    match original::differs(&drawn.trail, &original) {
         Some(what) => Err(arguments.wrong(&what)),
-        None => Ok(Some(Original::of(&of.trail, original))),
+        None => Ok(Original::of(&drawn.trail, original)),
     }
 }
 
@@ -198,13 +220,14 @@ fn run(arguments: &Arguments) -> Result<Status, Failure> {
     let names = arguments.several("one file or more")?;
     let questions = questions(arguments)?;
     let zoom = zoom(arguments, &questions)?;
-    let original = arguments.file("--original");
-    let names = names.iter().map(OsString::as_os_str);
-    let drawn: Vec<&OsStr> = names.chain(original).collect();
-    arguments.can_read(drawn.iter().copied())?;
-    let to = output_of(arguments, &drawn)?;
-    let trails = read(arguments, &questions)?;
-    let original = read_original(arguments, &trails)?;
+    let original = original_of(arguments, names)?;
+    let read_from = names.iter().map(OsString::as_os_str).chain(original);
+    let read_from: Vec<&OsStr> = read_from.collect();
+    arguments.can_read(read_from.iter().copied())?;
+    let to = output_of(arguments, &read_from)?;
+    let trails = read(arguments, names, &questions)?;
+    let original = original.zip(trails.first());
+    let original = original.map(|(name, of)| read_original(arguments, name, of));
     let firsts = trails.iter().map(|drawn| drawn.trail.first());
     let picture = Picture {
         title: match trails.as_slice() {
@@ -214,13 +237,13 @@ fn run(arguments: &Arguments) -> Result<Status, Failure> {
         start: firsts.min().unwrap_or(0),
         unit: trails
             .first()
-            .map_or(Unit::Centimetres, |of| of.trail.unit()),
+            .map_or(Unit::Centimetres, |drawn| drawn.trail.unit()),
         clock: arguments.clock()?,
+        original: original.transpose()?,
         trails,
-        original,
         questions,
         zoom,
     };
-    store(to, &drawn, picture.svg().as_bytes())?;
+    store(to, &read_from, picture.svg().as_bytes())?;
     Ok(Status::Done)
 }

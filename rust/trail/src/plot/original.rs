@@ -147,7 +147,7 @@ impl Original {
 
     /// Its lines in a view: those that are beside the trail, or the others.
     pub fn lines(&self, picture: &Picture, view: &View, beside: bool) -> Vec<Vec<Spot>> {
-        let stretches = picture.stretches(&self.trail);
+        let stretches = picture.stretches(view, &self.trail);
         let pieces = stretches.flat_map(|stretch| self.pieces(view, &stretch));
         let wanted = pieces.filter(|(is_beside, _)| *is_beside == beside);
         let lines = wanted.flat_map(|(_, piece)| view.lines(&piece, BEYOND));

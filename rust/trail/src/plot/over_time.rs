@@ -13,6 +13,7 @@ impl Picture {
         panel.grid(svg, &ticks, &numbers_up(&panel.up));
         let view = View {
             panel,
+            times: frame.times(),
             spot: &|placed| panel.at(self.time(placed.moment), (side.of)(placed)),
         };
         let (one, other) = panel.corners();

@@ -9,6 +9,7 @@ use super::legend::Legend;
 use super::names::Names;
 use super::original::Original;
 use super::panel::{Panel, Side, Tick, LEFT, RIGHT, WIDTH, X, Y};
+use super::scale::Interval;
 use super::svg::{Anchor, Svg};
 use super::text::{end_of, lines, NAME_SIZE};
 use super::times;
@@ -45,6 +46,13 @@ pub struct Frame {
     pub radius: Option<f64>,
 }
 
+impl Frame {
+    /// What the axes of time show.
+    pub fn times(&self) -> Interval {
+        self.x.across.interval
+    }
+}
+
 /// The least and greatest height of the plane, and the height of the other panels.
 const LEAST: f64 = 200.0;
 const GREATEST: f64 = 470.0;
@@ -63,9 +71,9 @@ pub const ROOM: f64 = RIGHT - LEFT;
 impl Picture {
     pub fn svg(&self) -> String {
         let counts = lines(&self.counts(), ROOM);
-        // where the panels stand decides nothing about their fixes
-        let fixes = self.frame(0.0).radius.is_some();
-        let legend = Legend::of(self, fixes, 46.0 + LINE * counts.len() as f64);
+        // where the panels stand decides nothing about what they show
+        let shown = self.frame(0.0);
+        let legend = Legend::of(self, &shown, 46.0 + LINE * counts.len() as f64);
         let names = Names::of(self);
         let first = names.draws_first();
         let top = legend.bottom() + if first { names.height() } else { 0.0 };
@@ -166,9 +174,8 @@ impl Picture {
     /// Whether the plane has a place, and the axes of time its moment.
     pub fn shows(&self, frame: &Frame, placed: &Placed) -> bool {
         let Panel { across, up } = &frame.plane;
-        let times = &frame.x.across.interval;
         let on_plane = across.interval.contains(placed.x) && up.interval.contains(placed.y);
-        on_plane && times.contains(self.time(placed.moment))
+        on_plane && frame.times().contains(self.time(placed.moment))
     }
 
     /// What the axis of time is named.

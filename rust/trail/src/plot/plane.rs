@@ -37,6 +37,7 @@ impl Picture {
         panel.grid(svg, &numbers_across(&panel.across), &numbers_up(&panel.up));
         let view = View {
             panel,
+            times: frame.times(),
             spot: &|placed| panel.at((X.of)(placed), (Y.of)(placed)),
         };
         let (one, other) = panel.corners();
