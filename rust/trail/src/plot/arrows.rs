@@ -14,6 +14,9 @@ const ASIDE: f64 = 0.35;
 const HALF: f64 = 6.0;
 const STRAIGHT: f64 = 0.9;
 
+/// How far from a fix a head can be seen well.
+const CLEAR: f64 = 11.0;
+
 /// Wobble that is smaller than this has no direction.
 const WOBBLE: f64 = 4.0;
 
@@ -48,10 +51,19 @@ fn head(line: &[Spot], after: f64) -> Option<[Spot; 3]> {
     Some([at(6.0, 0.0), at(-4.0, 4.2), at(-4.0, -4.2)])
 }
 
-/// A head near this length, where the line is straight.
+/// Whether a head is away from all the line's spots, where fixes may cover it.
+fn is_clear(line: &[Spot], [tip, one, other]: &[Spot; 3]) -> bool {
+    let middle = |of: fn(&Spot) -> f64| (of(tip) + of(one) + of(other)) / 3.0;
+    let middle = (middle(|spot| spot.0), middle(|spot| spot.1));
+    line.iter().all(|spot| length(&[*spot, middle]) > CLEAR)
+}
+
+/// A head near this length, where the line is straight, and away from its spots if there is such a place.
 fn head_near(line: &[Spot], after: f64) -> Option<[Spot; 3]> {
     let beside = (0..8).flat_map(|k| [3.0, -3.0].map(|by| by * f64::from(k)));
-    beside.into_iter().find_map(|by| head(line, after + by))
+    let all: Vec<[Spot; 3]> = beside.filter_map(|by| head(line, after + by)).collect();
+    let clear = all.iter().find(|head| is_clear(line, head));
+    clear.or(all.first()).copied()
 }
 
 /// The heads along all lines of a trail, so many at most.

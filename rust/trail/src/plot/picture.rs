@@ -160,12 +160,13 @@ impl Picture {
         format!("fixes: {count}{of}; {span}; places in {}", self.unit)
     }
 
-    /// How great fixes are drawn: small where there are many, and not at all where they would hide the line.
+    /// How great fixes are drawn, if there are some: small where there are many, and not at all where they would hide
+    /// the line.
     fn radius(&self, frame: &Frame) -> Option<f64> {
         let trails = self.trails.iter().flat_map(|drawn| &drawn.trail.fixes);
         let shown = trails.filter(|fix| self.shows(frame, &Placed::from(*fix)));
         match shown.count() {
-            0..=150 => Some(3.2),
+            1..=150 => Some(3.2),
             151..=400 => Some(2.2),
             _ => None,
         }

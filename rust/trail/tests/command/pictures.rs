@@ -5,43 +5,14 @@ use trails_tests::plain::kinds::{CENTIMETRES, KINDS, MILLIMETRES};
 use trails_tests::plain::{Fix, Trail};
 use trails_tests::shapes::{curve, ten_times, trail, Shape};
 
-use crate::folder::{fine_h, record, silent_h, silent_h_at_12, silent_record};
+use crate::folder::{fine_h, fine_h_at_105, record, silent_h, silent_h_at_12, silent_record};
 use crate::folder::{trail_h, trail_h_at_12, Folder};
+use crate::svg::{count, draw, lines, numbers, panel, plane, says, spots, well_formed};
 
 fn with_h() -> Folder {
     let folder = Folder::with_h();
     folder.put("aged", trail_h_at_12());
     folder
-}
-
-fn draw(folder: &Folder, words: &str) -> String {
-    let words: Vec<&str> = words.split(' ').collect();
-    let ran = folder.run(&[&["plot", "-o", "-"], words.as_slice()].concat());
-    assert_eq!((ran.status, ran.err.as_str()), (Some(0), ""), "{words:?}");
-    let picture = ran.text().to_string();
-    well_formed(&picture);
-    picture
-}
-
-/// Every element is closed, in the order of opening, and no number is missing.
-fn well_formed(picture: &str) {
-    assert!(picture.starts_with("<svg ") && picture.ends_with("</svg>\n"));
-    assert!(!picture.contains("NaN") && !picture.contains("inf"));
-    let mut open = Vec::new();
-    for tag in picture.split('<').skip(1) {
-        let (tag, _) = tag.split_once('>').expect("a tag ends");
-        let name = tag.split(' ').next().expect("a tag has a name");
-        match name.strip_prefix('/') {
-            Some(name) => assert_eq!(open.pop(), Some(name)),
-            None if tag.ends_with('/') => {}
-            None => open.push(name),
-        }
-    }
-    assert!(open.is_empty(), "{open:?}");
-}
-
-fn count(picture: &str, class: &str) -> usize {
-    picture.matches(&format!("class=\"{class}\"")).count()
 }
 
 #[test]
@@ -51,15 +22,16 @@ fn a_trail_alone_has_its_fixes_in_three_panels() {
     // once in the legend too
     assert_eq!(count(&picture, "trail"), 3 + 1);
     assert_eq!(count(&picture, "fix"), 3 * 4 + 1);
+    assert_eq!((count(&picture, "start"), count(&picture, "end")), (2, 2));
     for class in [
-        "original", "band", "within", "box", "window", "first", "silence", "near", "point",
-        "reach", "closest",
+        "original", "under", "band", "within", "box", "window", "part", "first", "silence", "near",
+        "point", "reach", "closest",
     ] {
         assert_eq!(count(&picture, class), 0, "{class}");
     }
     assert!(picture.contains("prefers-color-scheme:dark"));
-    for words in ["x, cm", "y, cm", "seconds after second 0"] {
-        assert!(picture.contains(&format!(">{words}</text>")), "{words}");
+    for words in ["x, cm", "y, cm", "time, s", "start", "end"] {
+        assert!(says(&picture, words), "{words}");
     }
 }
 
@@ -68,23 +40,62 @@ fn all_that_is_asked_is_drawn_and_named() {
     let folder = with_h();
     let words = "aged --original h --box 10 30 -5 5 --window 2 28";
     let picture = draw(&folder, words);
-    let counts = [
-        "original", "trail", "fix", "band", "within", "box", "window", "first",
-    ]
-    .map(|class| count(&picture, class));
-    assert_eq!(counts, [4, 4, 3 * 3 + 1, 1, 3, 4, 3, 4]);
+    let counts = ["trail", "fix", "band", "within", "box", "window", "first"]
+        .map(|class| count(&picture, class));
+    assert_eq!(counts, [4, 3 * 3 + 1, 1, 3, 4, 3, 4]);
     for words in [
         "fixes: 3 of the original's 4; seconds 0 to 30; places in centimetres",
+        "original",
         "within 12 cm of the trail",
-        "first in the box, 5.000 s",
+        "first in the box at 5.000",
     ] {
-        assert!(picture.contains(&format!(">{words}</text>")), "{words}");
+        assert!(says(&picture, words), "{words}");
     }
-    // the original is drawn first, so that it is under the trail
-    let last = |class: &str| picture.rfind(&format!("class=\"{class}\""));
-    assert!(last("original") < last("trail"));
     let wider = draw(&folder, "aged --tolerance 40");
-    assert!(wider.contains(">within 40 cm of the trail</text>"));
+    assert!(says(&wider, "within 40 cm of the trail"));
+}
+
+/// Above the trail where the two differ, and elsewhere under it: in dashes and a colour of its own.
+#[test]
+fn the_original_is_seen_beside_the_trail() {
+    let folder = with_h();
+    for (name, bytes) in [
+        ("fine", fine_h()),
+        ("fine-aged", fine_h_at_105()),
+        ("silent", silent_h()),
+        ("silent-aged", silent_h_at_12()),
+    ] {
+        folder.put(name, bytes);
+    }
+    for words in [
+        "aged --original h",
+        "fine-aged --original fine",
+        "silent-aged --original silent",
+    ] {
+        let picture = draw(&folder, words);
+        for name in ["plane", "x-over-time"] {
+            let panel = panel(&picture, name);
+            let at = |class: &str| panel.find(&format!("class=\"{class}\"")).expect(class);
+            assert!(
+                at("under") < at("trail") && at("trail") < at("original"),
+                "{words}"
+            );
+        }
+        // all y are the same until the second stretch, so that nothing differs there
+        let over_time = panel(&picture, "y-over-time");
+        assert_eq!(count(over_time, "original"), 0, "{words}");
+        assert!(count(over_time, "under") > 0, "{words}");
+    }
+    // h is at 20 until second 20, and the aged trail goes back at once
+    let picture = draw(&folder, "aged --original h");
+    let over_time = panel(&picture, "x-over-time");
+    let [trail, original] = ["trail", "original"].map(|class| lines(over_time, class).concat());
+    assert_eq!((trail.len(), original.len()), (3, 3));
+    assert_eq!((original[0], original[2]), (trail[1], trail[2]));
+    assert_eq!(original[1].1, trail[1].1);
+    let style = picture.split("</style>").next().expect("it has one");
+    assert!(style.contains(".original,.under{fill:none;stroke:#c05200"));
+    assert!(style.contains("stroke-dasharray:5 4"));
 }
 
 #[test]
@@ -97,22 +108,18 @@ fn small_and_great_trails_are_drawn() {
     );
     assert_eq!(count(&picture, "fix"), 3 + 1);
     assert_eq!(count(&picture, "first"), 3 + 1);
+    // a line of one spot is a dot
+    assert_eq!(spots(&picture).len(), 2);
+    assert!(says(&picture, "first in the box at 4294967295.000"));
+    // of very many fixes the line alone is seen
     let long = Trail::never_thinned(CENTIMETRES, curve(4_096));
     folder.put("long", long.bytes());
-    assert_eq!(count(&draw(&folder, "long"), "fix"), 3 * 4_096 + 1);
-    let picture = draw(&folder, "one --original long");
-    assert_eq!(count(&picture, "original"), 3 + 1);
-}
-
-/// The numbers of the first element of this class after the legend's: those of these attributes, in tenths.
-fn drawn(picture: &str, element: &str, class: &str, attributes: [&str; 3]) -> [i64; 3] {
-    let start = format!("<{element} class=\"{class}\" ");
-    let found = picture.split(&start).nth(2).expect("one on the plane");
-    attributes.map(|name| {
-        let (_, after) = found.split_once(&format!("{name}=\"")).expect("a number");
-        let (number, _) = after.split_once('"').expect("its end");
-        (10.0 * number.parse::<f64>().expect("a number")).round() as i64
-    })
+    let picture = draw(&folder, "long");
+    assert_eq!(count(&picture, "fix"), 0);
+    assert!(!says(&picture, "kept fix"));
+    let some = Trail::never_thinned(CENTIMETRES, curve(400));
+    folder.put("some", some.bytes());
+    assert_eq!(count(&draw(&folder, "some"), "fix"), 3 * 400 + 1);
 }
 
 /// A point beside h's first leg, with the circle about it, its edges against time, and where h is closest.
@@ -123,16 +130,18 @@ fn a_point_is_drawn_with_its_circle() {
     let counts = ["near", "point", "reach", "closest"].map(|class| count(&picture, class));
     // each once in the legend too; in the other panels a strip and a line for the circle and the point
     assert_eq!(counts, [4, 4, 3, 4]);
-    for words in ["within 9 cm of the point", "closest on leg 0, 5.000 s"] {
-        assert!(picture.contains(&format!(">{words}</text>")), "{words}");
+    for words in ["within 9 cm of the point", "closest on leg 0 at 5.000"] {
+        assert!(says(&picture, words), "{words}");
     }
     // a circle through where it is closest, straight below the point
-    let [x, y, r] = drawn(&picture, "circle", "near", ["cx", "cy", "r"]);
-    let [at, below, _] = drawn(&picture, "circle", "closest", ["cx", "cy", "r"]);
+    let on_plane = panel(&picture, "plane");
+    let [x, y, r] = numbers(on_plane, "circle", "near", ["cx", "cy", "r"])[0];
+    let [at, below] = numbers(on_plane, "circle", "closest", ["cx", "cy"])[0];
     assert_eq!(x, at);
     assert!((below - y - r).abs() <= 1, "{below} {y} {r}");
-    // all of it is on the plane, which is drawn from 96 to 556 down
-    assert!(y - r >= 960 && y + r <= 5_560, "{y} {r}");
+    // all of it is on the plane
+    let [_, top, _, bottom] = plane(&picture);
+    assert!(y - r >= top && y + r <= bottom, "{y} {r}");
     // h ends at x 0 and 20, so that the circle is as wide as 18 of these 20
     let line = &spots(&picture);
     assert!(
@@ -143,7 +152,8 @@ fn a_point_is_drawn_with_its_circle() {
     let picture = draw(&folder, "h --point 10 9 --radius 8 --box 5 10 -1 1");
     let counts = ["near", "point", "reach", "closest"].map(|class| count(&picture, class));
     assert_eq!(counts, [4, 4, 2, 0]);
-    assert!(picture.contains(">first in the box, 2.500 s</text>"));
+    assert!(says(&picture, "never within 8 cm of the point"));
+    assert!(says(&picture, "first in the box at 2.500"));
 }
 
 /// A circle that is greater than the hall leaves the trail its room.
@@ -156,26 +166,6 @@ fn a_great_circle_leaves_the_trail_in_sight() {
     assert!(4 * wide(&within) > wide(&alone), "{within:?}");
 }
 
-/// The spots of each line of this class: in the legend, then on the plane, then against time, and there a line for each
-/// stretch between silences; in tenths.
-fn lines(picture: &str, class: &str) -> Vec<Vec<(i64, i64)>> {
-    let start = format!("<polyline class=\"{class}\" points=\"");
-    let tenths = |word: &str| word.replace('.', "").parse().expect("a number of tenths");
-    let spot = |point: &str| point.split_once(',').map(|(x, y)| (tenths(x), tenths(y)));
-    let line = |rest: &str| {
-        let (points, _) = rest.split_once('"').expect("the points end");
-        points.split(' ').filter_map(spot).collect()
-    };
-    picture.split(&start).skip(1).map(line).collect()
-}
-
-/// The trail's spots on the plane.
-fn spots(picture: &str) -> Vec<(i64, i64)> {
-    let all = lines(picture, "trail");
-    let stretches = (all.len() - 1) / 3;
-    all[1..=stretches].concat()
-}
-
 /// On each panel a line for each stretch, and a ring around each end of the silence; between them nothing.
 #[test]
 fn a_silence_is_left_open() {
@@ -183,30 +173,42 @@ fn a_silence_is_left_open() {
     folder.put("h", silent_h());
     folder.put("aged", silent_h_at_12());
     let picture = draw(&folder, "aged --original h");
-    let fixes = |class| -> Vec<usize> { lines(&picture, class).iter().map(Vec::len).collect() };
-    assert_eq!(fixes("trail"), [2, 3, 3, 3, 3, 3, 3]);
-    assert_eq!(fixes("original"), [2, 4, 3, 4, 3, 4, 3]);
+    for name in ["plane", "x-over-time", "y-over-time"] {
+        let panel = panel(&picture, name);
+        let trail = lines(panel, "trail");
+        let fixes: Vec<usize> = trail.iter().map(Vec::len).collect();
+        assert_eq!(fixes, [3, 3]);
+        // no line of any sort goes from one stretch to the other
+        let spot = |line: &[(i64, i64)], spot| line.contains(spot);
+        let [before, after] = [trail[0][2], trail[1][0]];
+        let drawn = ["trail", "original", "under", "band"].map(|class| lines(panel, class));
+        for line in drawn.concat() {
+            assert!(!(spot(&line, &before) && spot(&line, &after)), "{name}");
+        }
+        let rings = numbers(panel, "circle", "silence", ["cx", "cy"]);
+        assert_eq!(rings, [before, after].map(|(x, y)| [x, y]));
+    }
+    // one ring is in the legend, as one band is there
     let counts = ["band", "within", "silence"].map(|class| count(&picture, class));
-    // the two trails' ends are the same, and one ring is in the legend, as one band is there
     assert_eq!(counts, [2, 2 * 2 + 1, 3 * 2 + 1]);
-    assert!(picture.contains(">end of a silence</text>"));
+    assert!(says(&picture, "end of a silence"));
     // where a line across the silence would have been first in the box
     let picture = draw(&folder, "h --box 100 400 20 90");
-    assert!(picture.contains(">first in the box, 300.000 s</text>"));
-    // silent all the time, and a trail of another kind under it
+    assert!(says(&picture, "first in the box at 300.000"));
+    // silent all the time: each fix is a dot
     folder.put(
         "all",
         silent_record(&[(0, 0, 0, 1), (9, 50, 7, 1), (30, 9, 9, 0)]),
     );
-    folder.put("plain", trail_h());
-    let picture = draw(&folder, "all --original plain --tolerance 3");
-    let fixes: Vec<usize> = lines(&picture, "trail").iter().map(Vec::len).collect();
-    assert_eq!(fixes, [2, 1, 1, 1, 1, 1, 1, 1, 1, 1]);
+    let picture = draw(&folder, "all --tolerance 3");
+    let dots = lines(panel(&picture, "plane"), "trail");
+    assert!(dots.len() == 3 && dots.iter().all(|dot| dot[0] == dot[1] && dot.len() == 2));
     assert_eq!(count(&picture, "silence"), 3 * 3 + 1);
+    assert_eq!(count(&picture, "arrow"), 0);
 }
 
-/// A place left of the aisle is drawn as far from it as its image right of it. The plane is drawn from 70 to 936 across and from
-/// 96 to 556 down, so the two add up to 1,006 and 652.
+/// A place left of the aisle is drawn as far from it as its image right of it: lines and fixes to the last digit, and
+/// heads of arrows to a tenth.
 #[test]
 fn a_mirrored_trail_is_drawn_mirrored() {
     let folder = Folder::new();
@@ -225,48 +227,30 @@ fn a_mirrored_trail_is_drawn_mirrored() {
         let images = trail.fixes.iter().map(mirror).collect();
         folder.put("trail", trail.bytes());
         folder.put("image", Trail::never_thinned(kind, images).bytes());
-        let (drawn, image) = (
-            spots(&draw(&folder, "trail")),
-            spots(&draw(&folder, "image")),
-        );
-        assert_eq!((drawn.len(), image.len()), (400, 400));
-        for (one, other) in drawn.into_iter().zip(image) {
-            assert_eq!(
-                (one.0 + other.0, one.1 + other.1),
-                (10_060, 6_520),
-                "{shape:?}"
-            );
-        }
-    }
-}
-
-/// Whatever is drawn and named, the legend's words stay in the picture, which is 960 wide, and above the plane; a letter
-/// is about 6.5.
-#[test]
-fn the_legend_has_room() {
-    let folder = Folder::new();
-    let far = [
-        (0, -16_000, 0, 0),
-        (65_534, 16_000, 0, 1),
-        (65_535, 0, 0, 0),
-    ];
-    folder.put("t", silent_record(&far));
-    let asked = "--box 15999 16000 0 0 --window 0 65534 --tolerance 32000 --point 16000 16000 \
-                 --radius 32000";
-    for words in [format!("t --original t {asked}"), "t".to_string()] {
-        let picture = draw(&folder, &words);
-        let legend = picture.split("<text class=\"words\" x=\"").skip(1);
-        for text in legend.take_while(|text| text.contains("text-anchor=\"start\"")) {
-            let (x, rest) = text.split_once("\" y=\"").expect("its place");
-            let (y, rest) = rest.split_once('"').expect("its row");
-            let (_, rest) = rest.split_once('>').expect("its words");
-            let (words, _) = rest.split_once('<').expect("their end");
-            let x: f64 = x.parse().expect("a number");
-            let end = x + 6.5 * words.chars().count() as f64;
-            assert!(end < 960.0, "{words} ends at {end}");
-            let y: f64 = y.parse().expect("a number");
-            assert!(y < 96.0 - 4.0, "{words} stands at {y}");
-        }
+        let (one, image) = (draw(&folder, "trail"), draw(&folder, "image"));
+        let [left, top, right, bottom] = plane(&one);
+        assert_eq!(plane(&image), [left, top, right, bottom]);
+        let off = |all: &dyn Fn(&str) -> Vec<(i64, i64)>| {
+            let (one, image) = (all(panel(&one, "plane")), all(panel(&image, "plane")));
+            assert_eq!(one.len(), image.len(), "{shape:?}");
+            assert!(!one.is_empty(), "{shape:?}");
+            let both = one.into_iter().zip(image);
+            both.map(|(a, b)| {
+                (a.0 + b.0 - left - right)
+                    .abs()
+                    .max((a.1 + b.1 - top - bottom).abs())
+            })
+            .max()
+        };
+        let fixes = |panel: &str| -> Vec<(i64, i64)> {
+            let circles = numbers(panel, "circle", "fix", ["cx", "cy"]);
+            circles.into_iter().map(|[x, y]| (x, y)).collect()
+        };
+        assert_eq!(off(&fixes), Some(0), "{shape:?}");
+        let trails = off(&|panel| lines(panel, "trail").concat());
+        assert_eq!(trails, Some(0), "{shape:?}");
+        let arrows = off(&|panel| lines(panel, "arrow").concat());
+        assert!(arrows.is_some_and(|off| off <= 1), "{shape:?} {arrows:?}");
     }
 }
 
