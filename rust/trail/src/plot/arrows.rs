@@ -110,7 +110,7 @@ mod tests {
     #[test]
     fn heads_are_few_and_only_where_they_can_be_read() {
         let far = vec![(0.0, 0.0), (1e5, 0.0)];
-        assert_eq!(heads(&[far.clone()], 24).len(), 24);
+        assert_eq!(heads(std::slice::from_ref(&far), 24).len(), 24);
         assert_eq!(heads(&[far.clone(), far], 5).len(), 5);
         let short = vec![(0.0, 0.0), (5.0, 0.0)];
         assert!(heads(&[short], 24).is_empty());

@@ -38,8 +38,7 @@ impl View<'_> {
     }
 }
 
-/// A box, a window or the edges of a circle, which may have no width: of what is too small to be seen a cross beside it
-/// shows where it is.
+/// A box, which may have no width: around one that is too small to be seen a cross shows where it is.
 pub fn draw_area(svg: &mut Svg, class: &str, one: Spot, other: Spot) {
     const SMALL: f64 = 5.0;
     const ARMS: [(f64, f64); 4] = [(1.0, 0.0), (-1.0, 0.0), (0.0, 1.0), (0.0, -1.0)];
@@ -126,20 +125,22 @@ impl Picture {
         self.draw_paths(svg, "original", &original(true));
     }
 
-    /// The trails' fixes, and the ends of silences.
+    /// The trails' fixes, if they are shown, and around them the ends of silences.
     pub fn draw_fixes(&self, svg: &mut Svg, frame: &Frame, view: &View) {
         let shown = |fix: &&AnyFix| self.shows(frame, &Placed::from(*fix));
+        let draw = |svg: &mut Svg, class: &str, fixes: &[&AnyFix], radius: f64| {
+            for fix in fixes.iter().copied().filter(shown) {
+                svg.circle(class, (view.spot)(&fix.into()), radius);
+            }
+        };
         if let Some(radius) = frame.radius {
             self.each(svg, |svg, drawn| {
-                for fix in drawn.trail.fixes.iter().filter(shown) {
-                    svg.circle("fix", (view.spot)(&fix.into()), radius);
-                }
+                let fixes: Vec<&AnyFix> = drawn.trail.fixes.iter().collect();
+                draw(svg, "fix", &fixes, radius);
             });
         }
         let radius = frame.radius.map_or(3.0, |radius| radius + RING);
-        for end in self.silence_ends().into_iter().filter(shown) {
-            svg.circle("silence", (view.spot)(&end.into()), radius);
-        }
+        draw(svg, "silence", &self.silence_ends(), radius);
     }
 
     /// Both ends of every silence, of each trail once; an original has those of its trail.

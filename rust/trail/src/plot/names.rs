@@ -57,11 +57,17 @@ fn widest<'a>(words: impl Iterator<Item = &'a String>) -> f64 {
 impl Names {
     /// The names of a picture's trails, or nothing if there is one: then it is the picture's own.
     pub fn of(picture: &Picture) -> Names {
-        let forms = FORMS.map(|form| Names::in_form(picture, form));
-        let fit = |names: &Names| names.wide() <= ROOM;
-        let all = forms.into_iter().filter(fit);
-        let least = all.min_by(|one, other| one.height().total_cmp(&other.height()));
-        least.unwrap_or_else(|| Names::in_form(picture, (0.0, false, false)))
+        let [first, rest @ ..] = FORMS.map(|form| Names::in_form(picture, form));
+        rest.into_iter().fold(first, Names::or_better)
+    }
+
+    /// The other, if that has room and needs less height.
+    fn or_better(self, other: Names) -> Names {
+        let fits = |names: &Names| names.wide() <= ROOM;
+        match fits(&other) && (!fits(&self) || other.height() < self.height()) {
+            true => other,
+            false => self,
+        }
     }
 
     fn in_form(picture: &Picture, (room, beside, joined): Form) -> Names {

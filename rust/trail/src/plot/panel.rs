@@ -17,7 +17,7 @@ pub const RIGHT: f64 = 772.0;
 
 /// How far below a panel the first row of labels stands, and each further row below that.
 const FIRST_ROW: f64 = 16.0;
-pub const ROW: f64 = 15.0;
+const NEXT_ROW: f64 = 15.0;
 
 /// A value of an axis that has a line and a label, and what stands below the label.
 pub struct Tick {
@@ -78,7 +78,7 @@ impl Panel {
 
     /// Where the row of this number below the panel stands, the labels' being 0.
     pub fn row(&self, number: usize) -> f64 {
-        self.up.from + FIRST_ROW + ROW * number as f64
+        self.up.from + FIRST_ROW + NEXT_ROW * number as f64
     }
 
     /// Lines and labels at these values, and the frame.

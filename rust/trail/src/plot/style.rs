@@ -3,8 +3,7 @@
 /// Viewers that know nothing of dark grounds show the light picture, on its own ground. What belongs to a trail has the
 /// colour of its group, or the picture's own.
 pub const STYLE: &str = "\
-:root{color-scheme:light dark}
-svg{color:#0b5fbf;max-width:100%;height:auto}
+svg{color:#0b5fbf;color-scheme:light dark;max-width:100%;height:auto}
 text{font:12px sans-serif;fill:#1b1f24}
 .name{font-size:17px;font-weight:bold}
 .soft{fill:#57606a}
