@@ -37,23 +37,14 @@ fn seconds(start: u32, interval: Interval) -> (u32, u32) {
     (second(interval.low.ceil()), second(interval.high.floor()))
 }
 
-/// How much room the labels of these steps need, all together.
+/// How much room a label of these steps needs, with the gap to the next.
 fn needed(clock: Clock, (first, last): (u32, u32), step: i64) -> f64 {
-    let of = |second| {
-        let words = [label(clock, second, step), day(clock, second, step)];
-        words
-            .map(|words| width(&words, SIZE))
-            .into_iter()
-            .fold(0.0, f64::max)
-    };
+    let [one, other] = [first, last].map(|second| day(clock, second, step));
+    let labels = [first, last].map(|second| label(clock, second, step));
     // a day is told once, so that its room counts only where another follows
-    let one_day = day(clock, first, step) == day(clock, last, step);
-    let widest = match one_day {
-        true => width(&label(clock, last, step), SIZE),
-        false => of(first).max(of(last)),
-    };
-    let many = i64::from(last - first) / step + 1;
-    many as f64 * (widest + GAP)
+    let days = [&one, &other].into_iter().filter(|_| one != other);
+    let all = labels.iter().chain(days);
+    GAP + all.map(|words| width(words, SIZE)).fold(0.0, f64::max)
 }
 
 /// Round times for an axis that counts from `start` and is so long, few enough that their labels stand apart. The day
@@ -65,7 +56,10 @@ pub fn ticks(clock: Clock, start: u32, interval: Interval, room: f64) -> Vec<Tic
         Some(_) => STEPS.into_iter().chain(days).collect(),
         None => round_steps().collect(),
     };
-    let fits = |step: &i64| needed(clock, (first, last.max(first)), *step) <= room;
+    let fits = |step: &i64| {
+        let apart = *step as f64 * room / interval.length();
+        apart >= needed(clock, (first, last), *step)
+    };
     let step = steps.into_iter().find(fits).unwrap_or(DAY);
     let midnight = clock.after_midnight().unwrap_or(0);
     let count = |second: u32| i64::from(second) + midnight;

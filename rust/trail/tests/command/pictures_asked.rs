@@ -98,8 +98,11 @@ fn axes_are_on_the_clock() {
     assert!(says(&late, "4294967294") && says(&late, "4294967295"));
     assert!(!late.contains("4294967296"));
     let dated = draw(&folder, "late --epoch 99999-12-31T23:59:59");
-    words_stand_apart(&late);
-    words_stand_apart(&dated);
+    let zoomed = draw(&folder, "late --window 4294967295 4294967295 --zoom window");
+    assert!(says(&zoomed, "4294967292") && !zoomed.contains("429496730"));
+    for picture in [late, dated, zoomed] {
+        words_stand_apart(&picture);
+    }
 }
 
 #[test]

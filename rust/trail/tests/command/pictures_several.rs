@@ -5,10 +5,10 @@ use std::fs;
 use trails_tests::cases::Random;
 use trails_tests::plain::kinds::{CENTIMETRES, KINDS, SILENCES};
 use trails_tests::plain::Trail;
-use trails_tests::shapes::{curve, trail, Shape};
+use trails_tests::shapes::{curve, every_kind_and_shape, trail, Shape};
 
 use crate::folder::{fine_h, record, silent_h, silent_h_at_12, silent_record, trail_h, Folder};
-use crate::svg::{count, draw, draw_words, panel, says, words_stand_apart};
+use crate::svg::{count, draw, draw_words, lines, panel, says, words_stand_apart};
 
 /// Each in its colour, with its name and its answers.
 #[test]
@@ -191,6 +191,63 @@ fn words_stand_apart_whatever_is_asked() {
             let both =
                 format!("{name} --original {name} --window 0 4294967295 --within {asked} {epoch}");
             words_stand_apart(&draw(&folder, &both));
+        }
+    }
+}
+
+/// Two numbers of a range in order, and now and then one twice.
+fn span(low: i64, high: i64, random: &mut Random) -> String {
+    let one = random.between(low, high);
+    let other = random.between(low, high);
+    let other = random.pick(&[one, other]);
+    format!("{} {}", one.min(other), one.max(other))
+}
+
+/// Some of what can be asked of a trail of this kind, at random.
+fn some_words(trail: &Trail, random: &mut Random) -> String {
+    let most = i64::from(trail.kind.limit);
+    let ends = [trail.fixes.first(), trail.fixes.last()];
+    let [first, last] = ends.map(|fix| i64::from(fix.expect("it has one").t));
+    let (x, y) = (span(-most, most, random), span(-most, most, random));
+    let place = |random: &mut Random| random.between(-most, most);
+    let (point, radius) = ([place(random), place(random)], random.between(0, 2 * most));
+    let (window, tolerance) = (span(first, last, random), random.between(0, 32_000));
+    let asked = [
+        ("box", format!("--box {x} {y}")),
+        ("window", format!("--window {window} --within")),
+        (
+            "point",
+            format!("--point {} {} --radius {radius}", point[0], point[1]),
+        ),
+    ];
+    let (zoom, more) = (random.pick(&[0, 1, 2]), random.pick(&[0, 1, 2]));
+    let mut words = asked[zoom].1.clone();
+    if more != zoom {
+        words += &format!(" {} --zoom {}", asked[more].1, asked[zoom].0);
+    }
+    let epoch = random.pick(&["", "--epoch 23:30:00", "--epoch 2026-11-17T23:59:59"]);
+    format!("{words} {epoch} --tolerance {tolerance}")
+}
+
+/// Nothing overlaps or is drawn far outside, whatever is asked of whatever trails.
+#[test]
+fn pictures_of_any_trails_are_in_order() {
+    let folder = Folder::new();
+    let mut random = Random::new(5);
+    for (kind, shape) in every_kind_and_shape() {
+        for n in [1, 2, 7, 160, 401] {
+            let all = trail(kind, shape, n, &mut random);
+            folder.put("t", all.bytes());
+            folder.put("u", trail(kind, shape, 9, &mut random).bytes());
+            let names = random.pick(&["t", "t u", "t --original t"]);
+            let words = format!("{names} {}", some_words(&all, &mut random));
+            let picture = draw(&folder, &words);
+            words_stand_apart(&picture);
+            let drawn = ["trail", "original", "under", "part"].map(|class| lines(&picture, class));
+            for (x, y) in drawn.concat().concat() {
+                let near = (400..8_000).contains(&x) && (0..15_000).contains(&y);
+                assert!(near, "{words} {x} {y}");
+            }
         }
     }
 }
