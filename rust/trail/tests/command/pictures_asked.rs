@@ -249,6 +249,13 @@ fn a_picture_can_be_zoomed() {
     assert_eq!((stretches(&whole), stretches(&zoomed)), (2, 1));
     assert!(says(&whole, "end") && !says(&zoomed, "end"));
     assert!(says(&zoomed, "start"));
+    // also where it is at the same places: the leg that goes on from the window is the last
+    folder.put(
+        "again",
+        record(&[(0, 0, 0), (99, 90, 0), (200, 0, 50), (300, 90, 5)]),
+    );
+    let again = |words: &str| spots(&draw(&folder, &format!("again --window 0 99 {words}"))).len();
+    assert_eq!((again(""), again("--zoom window")), (4, 3));
 }
 
 #[test]
