@@ -91,17 +91,9 @@ impl Question {
         }
     }
 
-    /// The window that a trail is asked about, if it has any time of it.
-    fn window(&self, trail: &Trail) -> Option<Window> {
-        match (self.window, self.within) {
-            (Some(window), false) => Some(window),
-            (window, _) => trail.within(window),
-        }
-    }
-
     fn ask(&self, trail: &Trail) -> Result<Answer, Failure> {
         let refused = |refusal| trail.refused(refusal);
-        let Some(window) = self.window(trail) else {
+        let Some(window) = trail.asked(self.window, self.within) else {
             // a bad box is refused by every trail
             trails::crosses(&trail.bytes, self.area, trail.times()).map_err(refused)?;
             return Ok(Answer::outside(trail));

@@ -97,18 +97,17 @@ impl Trail {
         self.first() <= second && (second < self.last() || at_end)
     }
 
-    /// The part of a window that it has, or all its times if none is given; none if it has no time of the window. One
-    /// that ends before it starts has no parts, and is left to be refused.
-    pub fn within(&self, window: Option<Window>) -> Option<Window> {
+    /// The window that it is asked about: as it is given, or all its times; and if the window is to be cut to its times,
+    /// the part that it has, which may be none. A window that ends before it starts has no parts, and is left to be
+    /// refused.
+    pub fn asked(&self, window: Option<Window>, within: bool) -> Option<Window> {
         let all = self.times();
-        match window {
-            None => Some(all),
-            Some(window) if window.end < window.start => Some(window),
-            Some(Window { start, end }) => {
-                let (start, end) = (start.max(all.start), end.min(all.end));
-                (start <= end).then_some(Window { start, end })
-            }
+        let Window { start, end } = window.unwrap_or(all);
+        if !within || end < start {
+            return Some(Window { start, end });
         }
+        let (start, end) = (start.max(all.start), end.min(all.end));
+        (start <= end).then_some(Window { start, end })
     }
 
     /// A question that is turned away, with the trail's times if it is about them.

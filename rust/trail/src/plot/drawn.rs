@@ -58,38 +58,21 @@ pub struct Questions {
     pub circle: Option<Circle>,
 }
 
-impl Questions {
-    /// The window that a trail is asked about: none if it has no time of it. A window that is none is refused as it is.
-    fn window_of(&self, trail: &Trail) -> Option<Window> {
-        let (first, last) = (trail.first(), trail.last());
-        let always = Window {
-            start: first,
-            end: last,
-        };
-        let asked = self.window.unwrap_or(always);
-        if !self.within || asked.start > asked.end {
-            return Some(asked);
-        }
-        let (start, end) = (asked.start.max(first), asked.end.min(last));
-        (start <= end).then_some(Window { start, end })
-    }
-}
-
 /// What is said of an answer and, of a yes, what is marked.
-pub struct Answer {
+pub struct Told {
     pub words: String,
     pub mark: Option<Placed>,
 }
 
-impl Answer {
-    fn no(words: String) -> Answer {
-        Answer { words, mark: None }
+impl Told {
+    fn no(words: String) -> Told {
+        Told { words, mark: None }
     }
 
     /// A yes at a time, cut as the answers of `cross` and `near` are.
-    fn yes(trail: &Trail, words: &str, numerator: u64, denominator: u64) -> Answer {
+    fn yes(trail: &Trail, words: &str, numerator: u64, denominator: u64) -> Told {
         let moment = clock::cut(trail.first(), numerator, denominator);
-        Answer {
+        Told {
             words: format!("{words} at {}", trail.clock.show_moment(moment)),
             mark: placed(trail, moment),
         }
@@ -104,18 +87,14 @@ pub struct Drawn {
     /// the part of the window that it has
     pub window: Option<Window>,
     /// whether it is in the box
-    pub crossing: Option<Answer>,
+    pub crossing: Option<Told>,
     /// whether it comes near the point
-    pub approach: Option<Answer>,
+    pub approach: Option<Told>,
 }
 
 /// Whether the trail is in the box. What isn't given is all there is, so that a bad box or window is refused even if it
 /// stands alone.
-fn crossing(
-    trail: &Trail,
-    questions: &Questions,
-    window: Window,
-) -> Result<Option<Answer>, Refusal> {
+fn crossing(trail: &Trail, questions: &Questions, window: Window) -> Result<Option<Told>, Refusal> {
     let most = trail.unit().limits().place;
     let hall = Area {
         left: -most,
@@ -128,19 +107,19 @@ fn crossing(
     let answer = match first {
         Some(first) => {
             let denominator = first.denominator.into();
-            Answer::yes(trail, "first in the box", first.numerator, denominator)
+            Told::yes(trail, "first in the box", first.numerator, denominator)
         }
         None => {
             let within = questions.window.map_or("", |_| " in the window");
             let outside = meaning::outside(trail.silences_in(window));
-            Answer::no(format!("never in the box{within}{outside}"))
+            Told::no(format!("never in the box{within}{outside}"))
         }
     };
     Ok(questions.area.map(|_| answer))
 }
 
 /// Whether the trail comes near the point, and when it is closest on the first leg that does.
-fn approach(trail: &Trail, circle: Option<Circle>) -> Result<Option<Answer>, Refusal> {
+fn approach(trail: &Trail, circle: Option<Circle>) -> Result<Option<Told>, Refusal> {
     let Some(circle) = circle else {
         return Ok(None);
     };
@@ -148,12 +127,12 @@ fn approach(trail: &Trail, circle: Option<Circle>) -> Result<Option<Answer>, Ref
     Ok(Some(match closest {
         Some(on) => {
             let words = format!("closest on leg {}", on.leg);
-            Answer::yes(trail, &words, on.numerator, on.denominator)
+            Told::yes(trail, &words, on.numerator, on.denominator)
         }
         None => {
             let near = circle.words(trail.unit());
             let outside = meaning::outside(trail.silences().count());
-            Answer::no(format!("never {near}{outside}"))
+            Told::no(format!("never {near}{outside}"))
         }
     }))
 }
@@ -167,14 +146,14 @@ impl Drawn {
         tolerance: Option<u16>,
     ) -> Result<Drawn, Failure> {
         let refused = |refusal| trail.refused(refusal);
-        let window = questions.window_of(&trail);
-        let crossing = match window {
-            Some(window) => crossing(&trail, questions, window).map_err(refused)?,
-            None => {
-                let answer = || Answer::no("no time in the window".into());
-                questions.area.map(|_| answer())
-            }
-        };
+        let window = trail.asked(questions.window, questions.within);
+        // a bad box is refused by a trail too that has no time of the window
+        let always = window.unwrap_or(trail.times());
+        let told = crossing(&trail, questions, always).map_err(refused)?;
+        let crossing = told.map(|told| match window {
+            Some(_) => told,
+            None => Told::no("no time in the window".into()),
+        });
         Ok(Drawn {
             name,
             approach: approach(&trail, questions.circle).map_err(refused)?,

@@ -4,7 +4,7 @@ use trails::AnyFix;
 
 use crate::words;
 
-use super::drawn::{Answer, Drawn, Placed};
+use super::drawn::{Drawn, Placed, Told};
 use super::layers::{draw_area, MARK, RING};
 use super::panel::{LEFT, RIGHT};
 use super::picture::{Frame, Picture};
@@ -53,7 +53,7 @@ fn if_there(there: bool, class: &'static str, words: &str) -> Option<Meaning> {
 }
 
 /// Of one trail: what is asked about, and beside it the mark of a yes. A no is said in its place.
-fn of_one(class: &'static str, words: &str, mark: &'static str, answer: &Answer) -> Vec<Meaning> {
+fn of_one(class: &'static str, words: &str, mark: &'static str, answer: &Told) -> Vec<Meaning> {
     match answer.mark {
         Some(_) => vec![(class, words.into()), (mark, answer.words.clone())],
         None => vec![(class, answer.words.clone())],
@@ -132,9 +132,9 @@ impl Picture {
         class: &'static str,
         words: &str,
         (mark, meaning): (&'static str, &str),
-        of: fn(&Drawn) -> Option<&Answer>,
+        of: fn(&Drawn) -> Option<&Told>,
     ) -> Vec<Meaning> {
-        let answers: Vec<&Answer> = self.trails.iter().filter_map(of).collect();
+        let answers: Vec<&Told> = self.trails.iter().filter_map(of).collect();
         match answers.as_slice() {
             [] => Vec::new(),
             [one] => of_one(class, words, mark, one),

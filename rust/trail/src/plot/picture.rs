@@ -181,9 +181,9 @@ impl Picture {
 
     /// What the axis of time is named.
     fn time_named(&self) -> &'static str {
-        match self.clock.after_midnight() {
-            Some(_) => "time",
-            None => "time, s",
+        match self.clock.is_set() {
+            true => "time",
+            false => "time, s",
         }
     }
 

@@ -255,7 +255,7 @@ const EVERY_KIND: &str = r#"
     trail age --tolerance 5 cm mm gap -o aged/ 2> age.err
     trail write cm.csv mm.csv gap.csv --epoch 06:00:00 -o again/ 2> write.err
     for kind in cm mm gap; do cmp $kind again/$kind.trail; done
-    trail plot cm gap --box 0 9 -1 1 --within -o both.svg
+    trail plot cm gap --box 0 9 -1 1 --window 10 300 --within -o both.svg
     trail dearest 64 -o dear
     trail table > table
     trail completion | cmp - "$1/share/bash-completion/completions/trail"

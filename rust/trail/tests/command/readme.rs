@@ -17,7 +17,10 @@ fn walk() -> Vec<(String, String)> {
     let (sections, _) = sections.split_once("\n## Map\n").expect("the next");
     assert_eq!(sections.matches("\n## ").count(), 1, "A shift");
     let mut walk: Vec<(String, String)> = Vec::new();
-    for line in sections.lines().filter_map(|line| line.strip_prefix("    ")) {
+    for line in sections
+        .lines()
+        .filter_map(|line| line.strip_prefix("    "))
+    {
         match (line.strip_prefix("# "), walk.last_mut()) {
             (Some(printed), Some((_, all))) => all.extend([printed, "\n"]),
             _ => walk.push((line.to_string(), String::new())),
