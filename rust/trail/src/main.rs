@@ -10,6 +10,7 @@ mod anchors;
 mod answer;
 mod arguments;
 mod beside;
+mod calendar;
 mod check;
 mod clock;
 mod columns;

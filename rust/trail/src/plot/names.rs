@@ -1,6 +1,6 @@
 //! The names of several trails with their colours and their answers, in as many columns as there is room for.
 
-use super::drawn::Drawn;
+use super::drawn::{Drawn, Told};
 use super::legend::{draw_sample, GAP, ROW, SAMPLE};
 use super::panel::LEFT;
 use super::picture::{Picture, LINE, ROOM};
@@ -27,7 +27,13 @@ const ABOVE: usize = 8;
 /// One trail's words: its name, and the lines beside it.
 struct Entry {
     name: String,
-    lines: Vec<String>,
+    lines: Vec<Line>,
+}
+
+/// What a trail answers, and whether there is a yes in it.
+struct Line {
+    words: String,
+    yes: bool,
 }
 
 pub struct Names {
@@ -41,16 +47,24 @@ pub struct Names {
 }
 
 /// What a trail answers: as one line, or as many as there are answers.
-fn answers(drawn: &Drawn, joined: bool) -> Vec<String> {
+fn answers(drawn: &Drawn, joined: bool) -> Vec<Line> {
     let answers = [&drawn.crossing, &drawn.approach].into_iter().flatten();
-    let words: Vec<String> = answers.map(|answer| answer.words.clone()).collect();
-    match joined && !words.is_empty() {
-        true => vec![words.join("; ")],
-        false => words,
+    let line = |told: &Told| Line {
+        words: told.words.clone(),
+        yes: told.mark.is_some(),
+    };
+    let lines: Vec<Line> = answers.map(line).collect();
+    if !joined || lines.is_empty() {
+        return lines;
     }
+    let words: Vec<&str> = lines.iter().map(|line| line.words.as_str()).collect();
+    vec![Line {
+        words: words.join("; "),
+        yes: lines.iter().any(|line| line.yes),
+    }]
 }
 
-fn widest<'a>(words: impl Iterator<Item = &'a String>) -> f64 {
+fn widest<'a>(words: impl Iterator<Item = &'a str>) -> f64 {
     words.map(|words| width(words, SIZE)).fold(0.0, f64::max)
 }
 
@@ -80,9 +94,10 @@ impl Names {
         let entries: Vec<Entry> = shown.map(entry).collect();
         let most = entries.iter().map(|entry| entry.lines.len()).max();
         let most = most.unwrap_or(0);
+        let lines = entries.iter().flat_map(|entry| &entry.lines);
         Names {
-            name: widest(entries.iter().map(|entry| &entry.name)),
-            lines: widest(entries.iter().flat_map(|entry| &entry.lines)),
+            name: widest(entries.iter().map(|entry| entry.name.as_str())),
+            lines: widest(lines.map(|line| line.words.as_str())),
             high: if beside { most.max(1) } else { 1 + most },
             beside,
             entries,
@@ -144,8 +159,10 @@ impl Names {
     }
 }
 
+/// A yes stands out among many noes.
 fn draw_lines(svg: &mut Svg, entry: &Entry, (x, y): Spot) {
-    for (line, words) in entry.lines.iter().enumerate() {
-        svg.text("soft", (x, y + LINE * line as f64), Anchor::Start, words);
+    for (row, Line { words, yes }) in entry.lines.iter().enumerate() {
+        let class = if *yes { "words" } else { "soft" };
+        svg.text(class, (x, y + LINE * row as f64), Anchor::Start, words);
     }
 }

@@ -105,6 +105,27 @@ fn a_window_is_cut_to_each_trails_own_times() {
     }
 }
 
+/// Among many noes a yes stands out, and a bad box is refused by a trail too that isn't asked about it.
+#[test]
+fn a_yes_is_seen_among_noes() {
+    let folder = Folder::with_h();
+    folder.put("later", record(&[(100, 0, 0), (130, 9, 0)]));
+    let picture = draw(&folder, "h later --box 15 25 -5 5");
+    let class = |words: &str| {
+        let (before, _) = picture
+            .split_once(&format!(">{words}<"))
+            .expect("it is said");
+        let (_, class) = before.rsplit_once("class=\"").expect("its class");
+        class.split('"').next().expect("its end").to_string()
+    };
+    assert_eq!(class("first in the box at 7.500"), "words");
+    assert_eq!(class("never in the box"), "soft");
+    let words = "plot later --box 9 0 0 9 --window 0 9 --within -o new";
+    let ran = folder.run_line(words);
+    assert_eq!(ran.status, Some(1), "{}", ran.err);
+    assert!(ran.err.starts_with("later: refused 14: "), "{}", ran.err);
+}
+
 /// Forty trails of as many fixes as there can be: a file that a viewer opens, and words that can be read.
 #[test]
 fn a_shift_of_forty_trails_is_drawn() {
