@@ -287,10 +287,18 @@ class Refusals(unittest.TestCase):
             lambda: trails.write([(1 << 32, 0, 0)]), lambda: trails.write([(0, 0.5, 0)]),
             lambda: trails.write([("0", 0, 0)]), lambda: trails.load([(65_536 + 7, 1)]),
             lambda: trails.dearest(-1), lambda: trails.write([(0, 0, 0, 257), (1, 0, 0)]),
+            lambda: trails.anchor(AnchorState(), Reading(10**400, 0)),
+            lambda: trails.anchor_all(AnchorState(), [Reading(0, "1")]),
         ]
         for number, call in enumerate(wrong):
             with self.subTest(number=number), self.assertRaises(ValueError):
                 call()
+
+    def test_what_is_no_bytes_is_no_record(self):
+        for other in (18, [1, 2, 3], "record"):
+            for call in (trails.check, trails.fixes, trails.listing, lambda of: trails.age(of, 5)):
+                with self.subTest(other=other), self.assertRaises(TypeError):
+                    call(other)
 
     def test_a_refusal_has_its_sentence_and_can_be_sent(self):
         self.assertEqual(trails.sentence(0), "Not refused.")

@@ -230,6 +230,14 @@ def _column(name: str, numbers: Iterable[int], of: Any) -> Tuple[Any, int]:
     return (of * len(fitting))(*fitting), len(fitting)
 
 
+def _float(name: str, number: float) -> float:
+    """A number that a float of 32 bits may stand for."""
+    try:
+        return float(_f32(number).value)
+    except (TypeError, OverflowError):
+        raise ValueError(f"{name}: {number!r} isn't a number that a float has") from None
+
+
 def _room(of: Any, count: int) -> Tuple[Any, int]:
     """A column of zeros that is lent to be filled."""
     return (of * count)(), count
@@ -242,7 +250,7 @@ def _copy(record: bytes) -> Tuple[Any, int]:
 
 def _record(record: bytes) -> Tuple[bytes, int]:
     """A record that is lent to be read."""
-    record = bytes(record)
+    record = bytes(memoryview(record))
     return record, len(record)
 
 
@@ -644,7 +652,8 @@ def _state(state: _AnchorState) -> AnchorState:
 def anchor(state: AnchorState, reading: Reading) -> Anchored:
     """Takes a reading. A refused one changes no state. Makes checks 17, 18 and 19."""
     take = _trails.trails_anchor_step if reading.step else _trails.trails_anchor_absolute
-    read = _accepted(take(state._lent(), reading.x, reading.y))
+    place = _float("x", reading.x), _float("y", reading.y)
+    read = _accepted(take(state._lent(), *place))
     return Anchored(_state(read.state), read.x, read.y)
 
 
@@ -653,5 +662,6 @@ def anchor_all(state: AnchorState, readings: Iterable[Reading]) -> AnchorState:
     all."""
     rows = list(readings)
     step = _column("step", (bool(reading.step) for reading in rows), _u8)
-    x, y = ((_f32 * len(rows))(*column) for column in ([r.x for r in rows], [r.y for r in rows]))
+    xs, ys = [_float("x", r.x) for r in rows], [_float("y", r.y) for r in rows]
+    x, y = ((_f32 * len(rows))(*column) for column in (xs, ys))
     return _state(_trails.trails_anchor_all(state._lent(), *step, x, len(rows), y, len(rows)))

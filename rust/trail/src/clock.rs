@@ -39,27 +39,27 @@ struct Given {
     time: i64,
 }
 
-/// A whole number of digits alone, in a range.
-fn digits(word: &str, range: RangeInclusive<i64>) -> Option<i64> {
+/// A whole number of so many digits at most and nothing else, in a range.
+fn digits(word: &str, most: usize, range: RangeInclusive<i64>) -> Option<i64> {
     let all = word.bytes().all(|byte| byte.is_ascii_digit());
-    let number = word.parse().ok().filter(|_| all && word.len() <= 5);
+    let number = word.parse().ok().filter(|_| all && word.len() <= most);
     number.filter(|number| range.contains(number))
 }
 
 /// The seconds of `hh:mm:ss` after midnight.
 fn time_of_day(word: &str) -> Option<i64> {
     let mut parts = word.split(':');
-    let mut part = |most: i64| digits(parts.next()?, 0..=most);
+    let mut part = |most: i64| digits(parts.next()?, 2, 0..=most);
     let (hours, minutes, seconds) = (part(23)?, part(59)?, part(59)?);
-    let whole = parts.next().is_none() && word.len() <= "hh:mm:ss".len();
-    whole.then_some(3_600 * hours + 60 * minutes + seconds)
+    let none_left = parts.next().is_none();
+    none_left.then_some(3_600 * hours + 60 * minutes + seconds)
 }
 
 /// The day that `yyyy-mm-dd` is.
 fn date(word: &str) -> Option<i64> {
     let mut parts = word.split('-');
-    let mut part = |range| digits(parts.next()?, range);
-    let (year, month, day) = (part(1..=99_999)?, part(1..=12)?, part(1..=31)?);
+    let mut part = |most, range| digits(parts.next()?, most, range);
+    let (year, month, day) = (part(5, 1..=99_999)?, part(2, 1..=12)?, part(2, 1..=31)?);
     let number = day_of(year, month, day);
     // the last day of a short month is no day of the next one
     let is_one = parts.next().is_none() && date_of(number) == (year, month, day);
@@ -69,7 +69,7 @@ fn date(word: &str) -> Option<i64> {
 impl Given {
     fn parse(word: &str) -> Option<Given> {
         let (word, later) = match word.split_once('+') {
-            Some((word, days)) => (word, Some(digits(days.strip_suffix('d')?, 0..=99_999)?)),
+            Some((word, days)) => (word, Some(digits(days.strip_suffix('d')?, 5, 0..=99_999)?)),
             None => (word, None),
         };
         let (day, time) = match word.split_once(['T', ' ']) {
@@ -103,16 +103,20 @@ impl Epoch {
 }
 
 impl Clock {
-    /// The clock on which second 0 was at this time, which may have a date.
+    /// The clock on which second 0 was at this time, which may have a date: up to the year 9999, so that the last second
+    /// has one that can be given too.
     pub fn with_epoch(word: &str) -> Result<Clock, String> {
         let given = Given::parse(word).filter(|given| given.later.is_none());
-        let Some(Given { date, time, .. }) = given else {
-            let word = words::quoted(word);
-            return Err(format!(
-                "{word} isn't a time like 06:30:00 or 2026-11-17T06:30:00"
-            ));
-        };
-        Ok(Clock(Some(Epoch { date, time })))
+        let early = |day: i64| date_of(day).0 <= 9_999;
+        match given.filter(|given| given.date.is_none_or(early)) {
+            Some(Given { date, time, .. }) => Ok(Clock(Some(Epoch { date, time }))),
+            None => {
+                let word = words::quoted(word);
+                Err(format!(
+                    "{word} isn't a time like 06:30:00 or 2026-11-17T06:30:00"
+                ))
+            }
+        }
     }
 
     /// The second that a word has: a number, or a time of the clock.
@@ -171,6 +175,11 @@ impl Clock {
     /// Whether seconds are told on a clock, and not as numbers.
     pub fn is_set(self) -> bool {
         self.0.is_some()
+    }
+
+    /// Whether they are told with their dates.
+    pub fn is_dated(self) -> bool {
+        self.0.is_some_and(|epoch| epoch.date.is_some())
     }
 
     /// A second's day, nothing on that of second 0 if it has no date, and its time of day, if they are told on a clock.

@@ -72,11 +72,11 @@ impl Column {
 }
 
 /// Where a field stands in each line, if it does.
-fn place(columns: &[Column], field: Field) -> Result<Option<usize>, String> {
-    let places = columns.iter().enumerate();
-    let mut places = places.filter(|(_, column)| column.field == field);
-    let first = places.next().map(|(at, _)| at);
-    match places.next() {
+fn position(columns: &[Column], field: Field) -> Result<Option<usize>, String> {
+    let positions = columns.iter().enumerate();
+    let mut positions = positions.filter(|(_, column)| column.field == field);
+    let first = positions.next().map(|(at, _)| at);
+    match positions.next() {
         None => Ok(first),
         Some(_) => Err(format!("two columns are {}", field.name())),
     }
@@ -85,7 +85,7 @@ fn place(columns: &[Column], field: Field) -> Result<Option<usize>, String> {
 /// The same of a field that must be there.
 fn needed(columns: &[Column], field: Field) -> Result<usize, String> {
     let missing = || format!("no column is {}; {KNOWN}", field.name());
-    place(columns, field)?.ok_or_else(missing)
+    position(columns, field)?.ok_or_else(missing)
 }
 
 /// The unit that the names of columns say, or else the caller.
@@ -118,7 +118,7 @@ impl Columns {
         let columns: Result<Vec<Column>, String> =
             names.iter().map(|name| Column::named(name)).collect();
         let columns = columns?;
-        if place(&columns, Field::Mark)?.is_some() {
+        if position(&columns, Field::Mark)?.is_some() {
             return Err(thinned("there is a column with a mark"));
         }
         let found = Columns {
@@ -127,7 +127,7 @@ impl Columns {
             time: needed(&columns, Field::Time)?,
             x: needed(&columns, Field::X)?,
             y: needed(&columns, Field::Y)?,
-            silence: place(&columns, Field::Silence)?,
+            silence: position(&columns, Field::Silence)?,
         };
         let silent = found.silence.is_some() || said.after.is_some();
         match found.unit == Unit::Millimetres && silent {

@@ -30,8 +30,10 @@ _trail() {
     COMPREPLY=()
     case $COMP_CWORD:${COMP_WORDS[1]} in
     1:* | 2:help)
+        words='{commands}'
+        ((COMP_CWORD > 1)) || words+=' {others}'
         compopt +o default
-        mapfile -t COMPREPLY < <(compgen -W '{commands}' -- "$word")
+        mapfile -t COMPREPLY < <(compgen -W "$words" -- "$word")
         return
         ;;
 {options}    esac
@@ -53,7 +55,7 @@ _trail() {
 complete -o default -F _trail trail
 "#;
 
-/// What stands for a command, besides those that there are.
+/// What may stand in a command's place.
 const OTHERS: [&str; 3] = ["help", "--help", "--version"];
 
 /// The options that a command takes.
@@ -72,11 +74,12 @@ fn values(choice: &Choice) -> String {
 
 fn script() -> String {
     let names = crate::COMMANDS.iter().map(|command| command.name);
-    let names: Vec<&str> = names.chain(OTHERS).collect();
+    let names: Vec<&str> = names.collect();
     let options: String = crate::COMMANDS.iter().map(options).collect();
     let values: String = OPTIONS.iter().map(values).collect();
     SCRIPT
         .replace("{commands}", &names.join(" "))
+        .replace("{others}", &OTHERS.join(" "))
         .replace("{options}", &options)
         .replace("{values}", &values)
 }

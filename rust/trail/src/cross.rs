@@ -48,10 +48,12 @@ file.
                 all of them. A trail that has no time of the window isn't asked,
                 and says so. Without --within such a window is refused
   --all         list every visit, each in a line: when it began, and between
-                which two seconds it ended. At the first of the two the cart was
-                still in the box, and at the second it wasn't. If it was out and
-                in again between two whole seconds, that is one visit. A silence
-                ends a visit: nobody knows whether the cart left
+                which two whole seconds it ended. At the first of the two the
+                cart was still in the box, and at the second it wasn't; if it
+                was there at no whole second, only the second is told. If it was
+                out and in again between two whole seconds, that is one visit.
+                A silence ends a visit: nobody knows whether the cart left. So
+                does a trail's end: of a split one the next may go on with it
   --epoch TIME  tell times on the clock; see 'trail help'
   --json        print one line for each file: {\"file\", \"unit\",
                 \"crosses\": true, \"numerator\", \"denominator\",
@@ -65,7 +67,8 @@ file.
                 of the silence that it fell into, or null. Of a trail that isn't
                 asked: {\"file\", \"unit\", \"outside\": true, \"first\", \"last\"}.
                 Of several files a last line has {\"files\", \"yes\", \"no\",
-                \"outside\", \"refused\", \"failed\"}, the last two as names
+                \"refused\", \"failed\"}, the last two as names, and with
+                --within \"outside\", how many weren't asked
 ";
 
 /// What is asked of each trail.
@@ -93,9 +96,7 @@ impl Question {
 
     fn ask(&self, trail: &Trail) -> Result<Answer, Failure> {
         let refused = |refusal| trail.refused(refusal);
-        let Some(window) = trail.asked(self.window, self.within) else {
-            // a bad box is refused by every trail
-            trails::crosses(&trail.bytes, self.area, trail.times()).map_err(refused)?;
+        let Some(window) = trail.asked(self.area, self.window, self.within)? else {
             return Ok(Answer::outside(trail));
         };
         let silences = trail.silences_in(window);
@@ -108,11 +109,7 @@ impl Question {
             false => {
                 let first = trails::crosses(&trail.bytes, self.area, window).map_err(refused)?;
                 let means = meaning::of_crossing(trail, first.is_some(), silences);
-                let time = first.map(|first| Time {
-                    leg: None,
-                    numerator: first.numerator,
-                    denominator: first.denominator.into(),
-                });
+                let time = first.map(Time::from);
                 (time.map_or(When::Never, When::At), means)
             }
         };

@@ -50,8 +50,12 @@ impl fmt::Display for Spot {
 pub enum Fact {
     /// So many fixes.
     Count(usize),
-    /// So many fixes that several trails can have.
+    /// So many fixes, which several trails can have.
     Splittable(usize),
+    /// More seconds than one trail has, which several can have.
+    Spread,
+    /// Two neighbouring fixes are so many seconds apart, which no trail has.
+    Apart(u32),
     /// The trail's first second and its last.
     Seconds(Clock, u32, u32),
     /// The seconds at which a silence begins and ends.
@@ -72,6 +76,8 @@ impl Fact {
             Fact::Count(count) | Fact::Splittable(count) => {
                 vec![("count", Json::Whole(count as i128))]
             }
+            Fact::Spread => Vec::new(),
+            Fact::Apart(seconds) => vec![("apart", Json::Whole(seconds.into()))],
             Fact::Seconds(_, first, last) => vec![
                 ("first", Json::Whole(first.into())),
                 ("last", Json::Whole(last.into())),
@@ -89,10 +95,12 @@ impl fmt::Display for Fact {
     fn fmt(&self, to: &mut fmt::Formatter) -> fmt::Result {
         match self {
             Fact::Count(count) => write!(to, "The count is {count}."),
-            Fact::Splittable(count) => {
-                let count = Fact::Count(*count);
-                write!(to, "{count} --split makes several trails of them.")
-            }
+            Fact::Splittable(count) => write!(to, "{} {}", Fact::Count(*count), Fact::Spread),
+            Fact::Spread => to.write_str("--split makes several trails of them."),
+            Fact::Apart(seconds) => write!(
+                to,
+                "Two neighbouring fixes are {seconds} seconds apart, and no trail has both."
+            ),
             Fact::Seconds(clock, first, last) => {
                 write!(to, "The trail has {}.", clock.span(*first, *last))
             }

@@ -11,7 +11,7 @@ use trails::LONGEST;
 use crate::failure::Failure;
 
 /// A day has 86,400 seconds, and in this many bytes a line of 194 for each. A text that is longer is a mistake.
-const LONGEST_TEXT: u64 = 16 << 20;
+const TEXT_LIMIT: u64 = 16 << 20;
 
 pub fn failed(name: &OsStr) -> impl FnOnce(io::Error) -> Failure + '_ {
     move |error| Failure::File(name.to_os_string(), error.to_string())
@@ -58,10 +58,10 @@ pub fn begin(name: &OsStr) -> Result<(Vec<u8>, File), Failure> {
 pub fn read_text(name: &OsStr) -> Result<Vec<u8>, Failure> {
     let mut text = Vec::new();
     // one byte more than the most tells a text that has more
-    let read = open(name).and_then(|file| file.take(LONGEST_TEXT + 1).read_to_end(&mut text));
-    let read = read.and_then(|length| match length as u64 > LONGEST_TEXT {
+    let read = open(name).and_then(|file| file.take(TEXT_LIMIT + 1).read_to_end(&mut text));
+    let read = read.and_then(|length| match length as u64 > TEXT_LIMIT {
         true => {
-            let most = LONGEST_TEXT >> 20;
+            let most = TEXT_LIMIT >> 20;
             Err(io::Error::other(format!("it has more than {most} MiB")))
         }
         false => Ok(text),

@@ -39,9 +39,10 @@ fn geometry(trail: &Trail, stretch: &[AnyFix]) -> Json {
     ])
 }
 
-/// A second: on the clock if there is one, and else a number.
+/// A second: with its date if that is known, and else a number. A GIS would take a time of day without its day, and so
+/// sort what is after midnight before it.
 fn time(trail: &Trail, second: u32) -> Json {
-    match trail.clock.is_set() {
+    match trail.clock.is_dated() {
         true => Json::text(trail.clock.show(second)),
         false => Json::Whole(second.into()),
     }

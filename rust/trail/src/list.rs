@@ -36,7 +36,7 @@ says that.
                 latitude. The properties of each are \"name\", \"unit\", \"mark\"
                 (in metres, or null), \"stretch\" and \"stretches\" (which it is
                 of how many), \"first\", \"last\" and \"times\", a time for each
-                position: seconds, or with --epoch times of the clock
+                position: seconds, or times with their dates if --epoch has one
   --json        print one line:
                 {\"file\", \"unit\", \"count\", \"mark\", \"fixes\": [[t, x, y], ...]};
                 if the trail can have silences, a fix is [t, x, y, 1] where one
@@ -44,21 +44,21 @@ says that.
 ";
 
 /// What a trail is printed as.
-enum Form {
+enum Format {
     Listing,
     Csv,
     Geojson,
     Json,
 }
 
-impl Form {
-    fn of(arguments: &Arguments) -> Result<Form, Failure> {
+impl Format {
+    fn of(arguments: &Arguments) -> Result<Format, Failure> {
         let given = ["--csv", "--geojson", "--json"].map(|option| arguments.has(option));
         match given {
-            [false, false, false] => Ok(Form::Listing),
-            [true, false, false] => Ok(Form::Csv),
-            [false, true, false] => Ok(Form::Geojson),
-            [false, false, true] => Ok(Form::Json),
+            [false, false, false] => Ok(Format::Listing),
+            [true, false, false] => Ok(Format::Csv),
+            [false, true, false] => Ok(Format::Geojson),
+            [false, false, true] => Ok(Format::Json),
             _ => Err(arguments.wrong("it takes one of --csv, --geojson and --json")),
         }
     }
@@ -66,16 +66,16 @@ impl Form {
 
 fn run(arguments: &Arguments) -> Result<Status, Failure> {
     let [name]: &[OsString; 1] = arguments.exactly("one file")?;
-    let form = Form::of(arguments)?;
+    let format = Format::of(arguments)?;
     let trail = Trail::read(name, arguments.clock()?)?;
-    match form {
-        Form::Listing => {
+    match format {
+        Format::Listing => {
             let text = trails::list(&trail.bytes).map_err(refused(name, &trail.bytes))?;
             output::print(&trail.clock.listing(&text))?;
         }
-        Form::Csv => output::print(&columns::text(&trail))?,
-        Form::Geojson => output::print_json(geojson::collection(&trail))?,
-        Form::Json => output::print_json(fields(&trail))?,
+        Format::Csv => output::print(&columns::text(&trail))?,
+        Format::Geojson => output::print_json(geojson::collection(&trail))?,
+        Format::Json => output::print_json(fields(&trail))?,
     }
     Ok(Status::Done)
 }

@@ -101,14 +101,15 @@ A second may be given as a time of the clock too, hh:mm:ss, also with .mmm where
 a moment is asked. '--epoch TIME' says when second 0 was, as hh:mm:ss or as
 yyyy-mm-ddThh:mm:ss, and then seconds are told so too; without it second 0 is
 midnight, and seconds are told as numbers. A time without a date is the first
-such time from second 0 on, or with +1d after it that of the next day. With
---json seconds are always numbers.
+such time from second 0 on; with +1d after it, it is of the day after second
+0's. With --json seconds are always numbers.
 
 With --json the answer is one line of JSON, and so is a refusal, {\"file\",
 \"refused\", \"sentence\"}, or a failure, {\"file\", \"failed\"}. Refusal 3 has
 \"count\" too, 12 and 13 have \"first\" and \"last\", 21 has \"from\" and \"to\", 22
-has \"rows\", and what is about a line of a text has \"line\". A byte of a file's
-name that isn't UTF-8 is there one of \\udc80 to \\udcff, as Python has it.
+has \"rows\", 9 of a leg that is too long for every trail has \"apart\", and what
+is about a line of a text has \"line\". A byte of a file's name that isn't UTF-8
+is there one of \\udc80 to \\udcff, as Python has it.
 
 Exit status: 0 done; 1 refused, with the refusal's number and sentence;
 2 wrong usage or a bad line; 3 a file couldn't be read or written, or an answer
@@ -165,7 +166,7 @@ fn help(about: &[OsString]) -> Result<Status, Failure> {
     Ok(Status::Done)
 }
 
-/// Prints which command this is, and which library is linked.
+/// Prints which command this is, and with which version of the package `trails` it was built.
 fn version(rest: &[OsString]) -> Result<Status, Failure> {
     if !rest.is_empty() {
         let what = "--version takes no words; try 'trail --help'";

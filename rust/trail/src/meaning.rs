@@ -72,12 +72,17 @@ pub fn of_visits(trail: &Trail, told: bool, silences: usize) -> String {
     if !told {
         return of_crossing(trail, false, silences);
     }
-    let (outside, unknown) = silent(silences, " in the window");
+    let (_, unknown) = silent(silences, " in the window");
+    let outside = match silences {
+        0 => "",
+        1 => " and the silence",
+        _ => " and the silences",
+    };
     let means = of_places(trail, |e| {
         format!(
-            "at each told moment the cart was in the box or within {e} of the box, and if it was in \
-             the box at another time of the window, outside these visits{outside}, it was within {e} \
-             of an edge"
+            "when a visit began, and at each of its whole seconds, the cart was in the box or within \
+             {e} of the box, and if it was in the box at a time of the window outside these \
+             visits{outside}, it was within {e} of an edge"
         )
     });
     format!("{means}{unknown}")

@@ -6,7 +6,8 @@ use std::os::unix::ffi::OsStrExt;
 
 use crate::numbers::{is_number, Range};
 
-/// An option: its name, the names of its values, and the range of each, if they are numbers.
+/// An option: its name, the names of its values, and the range of each, if they are numbers or times of the clock, which
+/// begin as numbers do.
 pub struct Choice {
     pub name: &'static str,
     pub values: &'static [&'static str],

@@ -42,8 +42,8 @@ file.
                 \"exact\": {\"x\", \"y\", \"denominator\"}, \"mark\", \"means\"}. Of a
                 trail that isn't asked: {\"file\", \"unit\", \"outside\": true,
                 \"first\", \"last\"}. Of several files a last line has {\"files\",
-                \"told\", \"outside\", \"refused\", \"failed\"}, the last two as
-                names
+                \"told\", \"refused\", \"failed\"}, the last two as names, and
+                with --within \"outside\", how many weren't asked
 ";
 
 /// Where a trail has its cart at a moment.

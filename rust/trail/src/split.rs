@@ -5,10 +5,13 @@
 //! a leg too: the record that begins with the fix says it, and the one that ends there doesn't.
 
 use std::ffi::{OsStr, OsString};
+use std::fs;
+use std::os::unix::ffi::OsStrExt;
 use std::path::Path;
 
 use trails::{AnyFix, Kind, Refusal, MOST_FIXES};
 
+use crate::beside::folder;
 use crate::failure::{Fact, Failure, Refused, Spot};
 use crate::made::Made;
 use crate::texts::Numbered;
@@ -42,16 +45,25 @@ fn refused_line(kind: Kind, refusal: Refusal, fixes: &[Numbered]) -> Option<usiz
     found.map(|(line, _)| *line)
 }
 
+/// The seconds of the first leg that no record has, if there is one.
+fn long_leg(fixes: &[Numbered]) -> Option<u32> {
+    let legs = fixes.iter().zip(fixes.iter().skip(1));
+    let mut seconds = legs.map(|((_, from), (_, to))| to.t.saturating_sub(from.t));
+    seconds.find(|seconds| *seconds > LONGEST_SPAN)
+}
+
 /// What is known of a list that is turned away: its count, and if it is too long what helps.
-fn fact(refusal: Refusal, count: usize) -> Option<Fact> {
-    match refusal == Refusal::BadCount && count > MOST_FIXES {
-        true => Some(Fact::Splittable(count)),
-        false => Fact::count(refusal, count),
+fn fact(refusal: Refusal, fixes: &[Numbered]) -> Option<Fact> {
+    let count = fixes.len();
+    match refusal {
+        Refusal::BadCount if count > MOST_FIXES => Some(Fact::Splittable(count)),
+        Refusal::LongSpan => Some(long_leg(fixes).map_or(Fact::Spread, Fact::Apart)),
+        _ => Fact::count(refusal, count),
     }
 }
 
 /// The record of fixes, each with the number of its line.
-pub fn whole(from: &OsStr, kind: Kind, fixes: &[Numbered]) -> Result<Made, Failure> {
+pub fn one(from: &OsStr, kind: Kind, fixes: &[Numbered]) -> Result<Made, Failure> {
     let list: Vec<AnyFix> = fixes.iter().map(|(_, fix)| *fix).collect();
     let record = trails::write_kind(kind, &list).map_err(|refusal| {
         Failure::Refused(Refused {
@@ -61,7 +73,7 @@ pub fn whole(from: &OsStr, kind: Kind, fixes: &[Numbered]) -> Result<Made, Failu
             },
             refusal,
             kind,
-            fact: fact(refusal, list.len()),
+            fact: fact(refusal, fixes),
         })
     })?;
     Ok(Made {
@@ -102,7 +114,7 @@ fn parts(fixes: &[Numbered]) -> Vec<Vec<Numbered>> {
 /// As few records as hold these fixes and their legs, each as full as can be.
 pub fn split(from: &OsStr, kind: Kind, fixes: &[Numbered]) -> Result<Vec<Made>, Failure> {
     let parts = parts(fixes);
-    parts.iter().map(|part| whole(from, kind, part)).collect()
+    parts.iter().map(|part| one(from, kind, part)).collect()
 }
 
 /// The name of the record of this number, counted from 1: `cart-001.trail` beside `cart.trail`.
@@ -115,6 +127,34 @@ pub fn named(to: &OsStr, number: usize) -> OsString {
         name.push(extension);
     }
     path.with_file_name(name).into_os_string()
+}
+
+/// The number that a name beside a trail's has, if it is one of its split's.
+fn number_of(to: &OsStr, name: &OsStr) -> Option<usize> {
+    let stem = Path::new(to).file_stem()?.as_bytes();
+    let rest = name.as_bytes().strip_prefix(stem)?.strip_prefix(b"-")?;
+    let digits = rest.iter().take_while(|byte| byte.is_ascii_digit()).count();
+    let number = std::str::from_utf8(rest.get(..digits)?)
+        .ok()?
+        .parse()
+        .ok()?;
+    let named = named(to, number);
+    (Path::new(&named).file_name() == Some(name)).then_some(number)
+}
+
+/// What earlier splits have left beside a trail's, of which this one has made so many: their names, in order.
+pub fn left(to: &OsStr, made: usize) -> Vec<OsString> {
+    let Ok(beside) = fs::read_dir(folder(Path::new(to))) else {
+        return Vec::new();
+    };
+    let names = beside.filter_map(|entry| Some(entry.ok()?.file_name()));
+    let mut numbers: Vec<usize> = names.filter_map(|name| number_of(to, &name)).collect();
+    numbers.retain(|number| *number > made);
+    numbers.sort_unstable();
+    numbers
+        .into_iter()
+        .map(|number| named(to, number))
+        .collect()
 }
 
 #[cfg(test)]

@@ -147,14 +147,14 @@ impl Listing {
             }
             ["end"] => {
                 self.ended = true;
-                self.whole().map(|()| None)
+                self.complete().map(|()| None)
             }
             _ => Err("a listing has lines 'fix TIME X Y', and then 'end'".into()),
         }
     }
 
     /// Whether all is there that its first line says.
-    fn whole(&self) -> Result<(), String> {
+    fn complete(&self) -> Result<(), String> {
         let Listing { count, seen, ended } = *self;
         match ended {
             false => Err(format!(
@@ -223,9 +223,9 @@ impl Reader {
     }
 
     /// Whether the text has all that it says.
-    fn whole(&self) -> Result<(), String> {
+    fn complete(&self) -> Result<(), String> {
         match &self.form {
-            Some(Form::Listing(listing)) => listing.whole(),
+            Some(Form::Listing(listing)) => listing.complete(),
             _ => Ok(()),
         }
     }
@@ -241,8 +241,8 @@ pub fn read(from: &OsStr, text: &[u8], said: Said) -> Result<Text, Failure> {
     let form = None;
     let mut reader = Reader { said, form };
     let entries = lines::entries(from, text, |fields| reader.entry(fields))?;
-    let whole = reader.whole();
-    whole.map_err(|what| Failure::Line(Spot::file(from), what))?;
+    let complete = reader.complete();
+    complete.map_err(|what| Failure::Line(Spot::file(from), what))?;
     let lines = entries.into_iter();
     let lines = lines.filter_map(|(number, line)| Some((number, line?)));
     Ok(Text {

@@ -2,9 +2,9 @@
 
 use std::ffi::{OsStr, OsString};
 
-use trails::{AnyFix, Head, Kind, Moment, Refusal, Unit, Window};
+use trails::{AnyFix, Area, Head, Kind, Moment, Refusal, Unit, Window};
 
-use crate::clock::Clock;
+use crate::clock::{self, Clock};
 use crate::failure::{Fact, Failure, Refused, Spot};
 use crate::files;
 
@@ -49,11 +49,21 @@ impl Trail {
         self.kind.unit()
     }
 
+    /// The fixes at both ends of each silence, in order.
+    pub fn silent_legs(&self) -> impl Iterator<Item = (&AnyFix, &AnyFix)> {
+        let legs = self.fixes.iter().zip(self.fixes.iter().skip(1));
+        legs.filter(|(from, _)| from.silence)
+    }
+
     /// Its silences, in order.
     pub fn silences(&self) -> impl Iterator<Item = Silence> + '_ {
-        let legs = self.fixes.iter().zip(self.fixes.iter().skip(1));
-        let silent = legs.filter(|(from, _)| from.silence);
-        silent.map(|(from, to)| (from.t, to.t))
+        self.silent_legs().map(|(from, to)| (from.t, to.t))
+    }
+
+    /// A time that an answer tells in seconds after the first fix, on the trail's own clock and cut off after the
+    /// thousandths.
+    pub fn moment(&self, numerator: u64, denominator: u64) -> Moment {
+        clock::cut(self.first(), numerator, denominator)
     }
 
     /// How many of its silences have some time of a window strictly inside them.
@@ -97,17 +107,33 @@ impl Trail {
         self.first() <= second && (second < self.last() || at_end)
     }
 
-    /// The window that it is asked about: as it is given, or all its times; and if the window is to be cut to its times,
-    /// the part that it has, which may be none. A window that ends before it starts has no parts, and is left to be
-    /// refused.
-    pub fn asked(&self, window: Option<Window>, within: bool) -> Option<Window> {
-        let all = self.times();
-        let Window { start, end } = window.unwrap_or(all);
-        if !within || end < start {
+    /// The part of a window that it has, which may be none. A window that ends before it starts has no parts, and is left
+    /// to be refused.
+    fn within(&self, Window { start, end }: Window) -> Option<Window> {
+        if end < start {
             return Some(Window { start, end });
         }
-        let (start, end) = (start.max(all.start), end.min(all.end));
+        let (start, end) = (start.max(self.first()), end.min(self.last()));
         (start <= end).then_some(Window { start, end })
+    }
+
+    /// The window in which it is asked about a box: as it is given, or all its times; and if it is to be cut to its
+    /// times, the part that it has. If it has none it isn't asked, but a bad box is refused then too.
+    pub fn asked(
+        &self,
+        area: Area,
+        window: Option<Window>,
+        within: bool,
+    ) -> Result<Option<Window>, Failure> {
+        let all = self.times();
+        let window = window.unwrap_or(all);
+        if !within {
+            return Ok(Some(window));
+        }
+        let part = self.within(window);
+        let asked = trails::crosses(&self.bytes, area, part.unwrap_or(all));
+        asked.map_err(|refusal| self.refused(refusal))?;
+        Ok(part)
     }
 
     /// A question that is turned away, with the trail's times if it is about them.

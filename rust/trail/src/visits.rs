@@ -8,9 +8,9 @@
 
 use trails::{Area, Crossing, Refusal, Window};
 
-use crate::clock;
 use crate::json::Json;
 use crate::trail::{Silence, Trail};
+use crate::yes_or_no::Time;
 
 pub struct Visit {
     /// its first time
@@ -26,8 +26,8 @@ enum End {
     Out(u32),
     /// The cart was in the box when it fell silent.
     Silent(Silence),
-    /// The cart was in the box when the window ended.
-    Window,
+    /// The cart was in the box at this second, with which the window ended.
+    Window(u32),
 }
 
 /// When the crossing tells that the cart was in the box: the second, and whether at just that one or later in it.
@@ -74,7 +74,7 @@ impl End {
     fn after(trail: &Trail, second: u32, window: Window) -> End {
         let silence = trail.silences().find(|(from, _)| *from == second);
         match silence {
-            _ if second >= window.end => End::Window,
+            _ if second >= window.end => End::Window(second),
             Some(silence) => End::Silent(silence),
             None => End::Out(second.saturating_add(1)),
         }
@@ -102,22 +102,21 @@ pub fn visits(trail: &Trail, area: Area, window: Window) -> Result<Vec<Visit>, R
 impl Visit {
     /// What people are told of it.
     pub fn text(&self, trail: &Trail) -> String {
-        let clock = trail.clock;
-        let Crossing {
-            numerator,
-            denominator,
-        } = self.begin;
-        let moment = clock::cut(trail.first(), numerator, denominator.into());
-        let begin = clock.show_moment(moment);
-        let last = self.last.map_or(begin.clone(), |last| clock.show(last));
-        let end = match self.end {
-            End::Out(second) => format!("out between {last} and {}", clock.show(second)),
-            End::Silent((from, to)) => {
-                format!("silent from {} to {}", clock.show(from), clock.show(to))
+        let show = |second: u32| trail.clock.show(second);
+        let begin = Time::from(self.begin).text(trail);
+        let end = match (&self.end, self.last) {
+            (End::Out(second), Some(last)) => {
+                format!("out between {} and {}", show(last), show(*second))
             }
-            End::Window => format!("still in at {last}"),
+            (End::Out(second), None) => format!("out before {}", show(*second)),
+            (End::Silent((from, to)), _) => {
+                format!("silent from {} to {}", show(*from), show(*to))
+            }
+            (End::Window(second), _) => {
+                format!("still in at {}, when the window ends", show(*second))
+            }
         };
-        format!("visit: in at {begin}, {end}")
+        format!("visit: in {begin}, {end}")
     }
 
     /// What programs are told of it.
@@ -126,7 +125,7 @@ impl Visit {
         let (out, silent) = match self.end {
             End::Out(second) => (Some(second), None),
             End::Silent((_, to)) => (None, Some(to)),
-            End::Window => (None, None),
+            End::Window(_) => (None, None),
         };
         Json::Object(vec![
             ("numerator", Json::Whole(self.begin.numerator.into())),

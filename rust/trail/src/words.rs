@@ -3,7 +3,7 @@
 use std::ffi::OsStr;
 use std::os::unix::ffi::OsStrExt;
 
-use trails::Unit;
+use trails::{in_threes, Unit};
 
 /// Whether a terminal obeys a character or hides it: controls, marks that turn a line's direction, separators of lines,
 /// and signs without width.
@@ -72,6 +72,12 @@ pub fn mark(mark: Option<u16>, unit: Unit) -> String {
 /// The tolerance that agings apply in this unit as people read it.
 pub fn applied(tolerance: Option<u16>, unit: Unit) -> String {
     tolerance.map_or("none".into(), |e| length(e, unit))
+}
+
+/// So many of something, by the word for one or for several.
+pub fn count(number: u64, one: &str, several: &str) -> String {
+    let word = if number == 1 { one } else { several };
+    format!("{} {word}", in_threes(number))
 }
 
 /// A length as people read it.

@@ -46,7 +46,7 @@ Makes a trail, marked never thinned, of a text that has a fix in each line:
 in whole seconds, or times of the clock, and centimetres, -16,000 to 16,000.
 Empty lines, and comments from '#' to a line's end, are skipped. A bad line is
 named with its number, and then nothing is stored; a file that is there already
-is replaced only by a whole new one.
+is replaced only by a whole new one. A text has at most 16 MiB.
 
 Where a fix has 'silence' or '1' in the fourth place, the cart dropped out after
 it: until the next fix nobody knows where it was. '-', '0' or nothing there says
@@ -82,8 +82,9 @@ the end says how many there were.
                  and 65,535 seconds: 'cart-001.trail', 'cart-002.trail' and so
                  on for 'cart.trail'. Each begins with the last fix of the one
                  before, so that no leg is lost; a silence after that fix is in
-                 the trail that begins with it. All are made before the first
-                 is stored
+                 the trail that begins with it. A leg of more seconds fits no
+                 trail, silent or not, and is refused. All are made before the
+                 first is stored. What an earlier split has left is named
   --silence-after SECONDS
                  a silence is also where two neighbouring fixes are further
                  apart than so many seconds
@@ -92,7 +93,8 @@ the end says how many there were.
                  too
   --anchors      the text has readings; they are in centimetres, so there are
                  no millimetres then
-  --epoch TIME   when second 0 was, for times of the clock; see 'trail help'
+  --epoch TIME   when second 0 was, for times of the clock; those that pass
+                 midnight need it; see 'trail help'
   -o OUT         where the trails go; '-' is the standard output, and what is
                  said at the end is then on standard error
   --force        let OUT be the one text itself, which the trail then replaces
@@ -196,7 +198,7 @@ impl Asked<'_> {
                 let name = |number| split::named(to, number);
                 (1..).map(name).zip(made).collect()
             }
-            false => vec![(to.to_os_string(), split::whole(from, kind, &fixes)?)],
+            false => vec![(to.to_os_string(), split::one(from, kind, &fixes)?)],
         };
         Ok(Written {
             from,

@@ -1,9 +1,6 @@
 //! What `trail write` has made of a text, and of all texts, and how it is told.
 
 use std::ffi::{OsStr, OsString};
-use std::fs;
-
-use trails::in_threes;
 
 use crate::anchors::Readings;
 use crate::failure::{Failure, Status};
@@ -38,14 +35,17 @@ impl Written<'_> {
     /// Tells of a text's trails. Of one that goes to the file that is named, people needn't be told.
     pub fn tell(&self, split: bool, json: bool) -> Result<(), Failure> {
         if split {
-            self.tell_of_rest();
+            self.tell_of_others();
         }
         if json {
             return self.tell_programs();
         }
         let text = match (&self.readings, split) {
             (None, false) => return Ok(()),
-            (None, true) => format!("{} fixes{}", self.fixes, self.parts()),
+            (None, true) => {
+                let fixes = words::count(self.fixes as u64, "fix", "fixes");
+                format!("{fixes}{}", self.parts())
+            }
             (Some(readings), false) => readings.text(),
             (Some(readings), true) => format!("{}{}", readings.text(), self.parts()),
         };
@@ -61,23 +61,22 @@ impl Written<'_> {
     /// How many trails there are, and which.
     fn parts(&self) -> String {
         let name = |trail: &(OsString, Made)| words::shown(&trail.0);
+        let count = words::count(self.trails.len() as u64, "trail", "trails");
         match self.trails.as_slice() {
             [] => String::new(),
-            [one] => format!(" in 1 trail, {}", name(one)),
-            [first, .., last] => {
-                let (count, first, last) = (self.trails.len(), name(first), name(last));
-                format!(" in {count} trails, {first} to {last}")
-            }
+            [one] => format!(" in {count}, {}", name(one)),
+            [first, .., last] => format!(" in {count}, {} to {}", name(first), name(last)),
         }
     }
 
-    /// An earlier split may have made more trails. They are somebody's, and stay.
-    fn tell_of_rest(&self) {
-        let next = split::named(self.to, self.trails.len().saturating_add(1));
-        if fs::symlink_metadata(&next).is_ok() {
-            let next = words::shown(&next);
+    /// Earlier splits may have left trails beside these. They are somebody's, and stay.
+    fn tell_of_others(&self) {
+        let left = split::left(self.to, self.trails.len());
+        let names: Vec<String> = left.iter().map(|name| words::shown(name)).collect();
+        if !names.is_empty() {
+            let (from, names) = (words::shown(self.from), names.join(", "));
             output::message(&format!(
-                "{next}: it was there before, and isn't of this split"
+                "{from}: not of this split, but there before: {names}"
             ));
         }
     }
@@ -112,8 +111,9 @@ impl Sums {
     }
 
     pub fn text(&self) -> String {
-        let [fixes, trails] = [self.fixes, self.trails].map(|number| in_threes(number as u64));
-        format!("; {fixes} fixes in {trails} trails")
+        let fixes = words::count(self.fixes as u64, "fix", "fixes");
+        let trails = words::count(self.trails as u64, "trail", "trails");
+        format!("; {fixes} in {trails}")
     }
 
     pub fn fields(&self) -> Vec<(&'static str, Json)> {

@@ -1,12 +1,12 @@
 //! How a question of yes or no is answered.
 
-use trails::Unit;
+use trails::{Crossing, Unit};
 
 use crate::answer::{Answer, Sort};
-use crate::clock;
 use crate::json::Json;
 use crate::trail::Trail;
 use crate::visits::Visit;
+use crate::words;
 
 /// What a yes tells: a time in seconds after the first fix, and maybe the leg of which it is.
 pub struct Time {
@@ -37,12 +37,22 @@ pub struct YesOrNo<'a> {
     pub means: String,
 }
 
+impl From<Crossing> for Time {
+    fn from(crossing: Crossing) -> Time {
+        Time {
+            leg: None,
+            numerator: crossing.numerator,
+            denominator: crossing.denominator.into(),
+        }
+    }
+}
+
 impl Time {
     /// The time as it is, and on the clock, cut off after the thousandths.
-    fn text(&self, trail: &Trail) -> String {
+    pub fn text(&self, trail: &Trail) -> String {
         let (numerator, denominator) = (self.numerator, self.denominator);
         let leg = self.leg.map(|leg| format!("on leg {leg}, closest "));
-        let moment = clock::cut(trail.first(), numerator, denominator);
+        let moment = trail.moment(numerator, denominator);
         let at = trail.clock.show_moment(moment);
         let leg = leg.unwrap_or_default();
         format!("{leg}{numerator}/{denominator} seconds after the first fix, at {at}")
@@ -70,11 +80,11 @@ impl When {
     fn text(&self, trail: &Trail) -> String {
         match self {
             When::At(time) => format!("yes, {}", time.text(trail)),
-            When::Visits(visits) => match visits.len() {
-                0 => "no".into(),
-                1 => "yes, 1 visit".into(),
-                many => format!("yes, {many} visits"),
-            },
+            When::Visits(visits) if visits.is_empty() => "no".into(),
+            When::Visits(visits) => {
+                let visits = words::count(visits.len() as u64, "visit", "visits");
+                format!("yes, {visits}")
+            }
             When::Never => "no".into(),
         }
     }

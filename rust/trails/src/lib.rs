@@ -92,5 +92,5 @@ pub use refusal::Refusal;
 pub use table::{Row, Table};
 pub use unit::{in_threes, Limits, Unit};
 
-/// The version of this package and of the proved functions that it links, as `TRAILS_VERSION` of the header has it.
+/// The version of this package, which is that of the header it was made with, `TRAILS_VERSION`.
 pub const VERSION: &str = env!("CARGO_PKG_VERSION");

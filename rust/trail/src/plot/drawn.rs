@@ -5,7 +5,6 @@
 
 use trails::{AnyFix, Area, Moment, Refusal, Window};
 
-use crate::clock;
 use crate::failure::Failure;
 use crate::meaning;
 use crate::trail::{stretches, Trail};
@@ -71,7 +70,7 @@ impl Told {
 
     /// A yes at a time, cut as the answers of `cross` and `near` are.
     fn yes(trail: &Trail, words: &str, numerator: u64, denominator: u64) -> Told {
-        let moment = clock::cut(trail.first(), numerator, denominator);
+        let moment = trail.moment(numerator, denominator);
         Told {
             words: format!("{words} at {}", trail.clock.show_moment(moment)),
             mark: placed(trail, moment),
@@ -92,30 +91,34 @@ pub struct Drawn {
     pub approach: Option<Told>,
 }
 
-/// Whether the trail is in the box. What isn't given is all there is, so that a bad box or window is refused even if it
-/// stands alone.
-fn crossing(trail: &Trail, questions: &Questions, window: Window) -> Result<Option<Told>, Refusal> {
+/// All of the hall: where no box is given it stands for one, so that a bad window is refused even if it stands alone.
+fn hall(trail: &Trail) -> Area {
     let most = trail.unit().limits().place;
-    let hall = Area {
+    Area {
         left: -most,
         right: most,
         bottom: -most,
         top: most,
-    };
-    let area = questions.area.unwrap_or(hall);
+    }
+}
+
+/// Whether the trail is in the box.
+fn crossing(trail: &Trail, area: Area, window: Window) -> Result<Told, Refusal> {
     let first = trails::crosses(&trail.bytes, area, window)?;
-    let answer = match first {
+    Ok(match first {
         Some(first) => {
             let denominator = first.denominator.into();
             Told::yes(trail, "first in the box", first.numerator, denominator)
         }
         None => {
-            let within = questions.window.map_or("", |_| " in the window");
+            let within = match window == trail.times() {
+                true => "",
+                false => " in the window",
+            };
             let outside = meaning::outside(trail.silences_in(window));
             Told::no(format!("never in the box{within}{outside}"))
         }
-    };
-    Ok(questions.area.map(|_| answer))
+    })
 }
 
 /// Whether the trail comes near the point, and when it is closest on the first leg that does.
@@ -146,18 +149,16 @@ impl Drawn {
         tolerance: Option<u16>,
     ) -> Result<Drawn, Failure> {
         let refused = |refusal| trail.refused(refusal);
-        let window = trail.asked(questions.window, questions.within);
-        // a bad box is refused by a trail too that has no time of the window
-        let always = window.unwrap_or(trail.times());
-        let told = crossing(&trail, questions, always).map_err(refused)?;
-        let crossing = told.map(|told| match window {
-            Some(_) => told,
+        let area = questions.area.unwrap_or(hall(&trail));
+        let window = trail.asked(area, questions.window, questions.within)?;
+        let told = match window {
+            Some(window) => crossing(&trail, area, window).map_err(refused)?,
             None => Told::no("no time in the window".into()),
-        });
+        };
         Ok(Drawn {
             name,
             approach: approach(&trail, questions.circle).map_err(refused)?,
-            crossing,
+            crossing: questions.area.map(|_| told),
             window: window.filter(|_| questions.window.is_some()),
             tolerance,
             trail,

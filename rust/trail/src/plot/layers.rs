@@ -146,9 +146,8 @@ impl Picture {
     /// Both ends of every silence, of each trail once; an original has those of its trail.
     pub fn silence_ends(&self) -> Vec<&AnyFix> {
         let trails = self.trails.iter();
-        let legs = trails.flat_map(|drawn| drawn.trail.fixes.windows(2));
-        let silent = legs.filter(|leg| leg.first().is_some_and(|fix| fix.silence));
-        let mut ends: Vec<&AnyFix> = silent.flatten().collect();
+        let legs = trails.flat_map(|drawn| drawn.trail.silent_legs());
+        let mut ends: Vec<&AnyFix> = legs.flat_map(|(from, to)| [from, to]).collect();
         ends.dedup();
         ends
     }

@@ -10,10 +10,10 @@ use super::text::{end_of, width, SIZE};
 
 /// How the words of a trail may stand: the most room of a name, whether the answers stand beside it or below, and whether
 /// they are one line.
-type Form = (f64, bool, bool);
+type Layout = (f64, bool, bool);
 
 /// The first is taken that needs the least height.
-const FORMS: [Form; 5] = [
+const LAYOUTS: [Layout; 5] = [
     (320.0, true, true),
     (190.0, true, true),
     (320.0, true, false),
@@ -71,7 +71,7 @@ fn widest<'a>(words: impl Iterator<Item = &'a str>) -> f64 {
 impl Names {
     /// The names of a picture's trails, or nothing if there is one: then it is the picture's own.
     pub fn of(picture: &Picture) -> Names {
-        let [first, rest @ ..] = FORMS.map(|form| Names::in_form(picture, form));
+        let [first, rest @ ..] = LAYOUTS.map(|layout| Names::laid_out(picture, layout));
         rest.into_iter().fold(first, Names::or_better)
     }
 
@@ -84,7 +84,7 @@ impl Names {
         }
     }
 
-    fn in_form(picture: &Picture, (room, beside, joined): Form) -> Names {
+    fn laid_out(picture: &Picture, (room, beside, joined): Layout) -> Names {
         let several = picture.trails.len() > 1;
         let shown = picture.trails.iter().filter(|_| several);
         let entry = |drawn: &Drawn| Entry {

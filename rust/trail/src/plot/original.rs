@@ -1,6 +1,6 @@
 //! A trail's original: whether it is that, and where it is beside the trail.
 
-use trails::{AnyFix, Kind};
+use trails::AnyFix;
 
 use crate::trail::Trail;
 
@@ -67,7 +67,7 @@ pub fn differs(trail: &Trail, original: &Trail) -> Option<String> {
     if trail.unit() != original.unit() {
         return Some("the trail and the original are in different units".into());
     }
-    let silent = |of: &Trail| of.kind == Kind::Silences;
+    let silent = |of: &Trail| of.kind.has_silences();
     let named = |second| trail.clock.named(second);
     let ends = |verb: &str, of: fn(&Trail) -> u32| {
         let (here, there) = (of(trail), of(original));

@@ -92,7 +92,7 @@ impl Axis {
     }
 
     /// Where a value is drawn, to a tenth, as a picture's numbers are written. It is counted from the middle, and halves go away
-    /// from it, so that a mirrored trail is drawn mirrored, to the last digit.
+    /// from it, so that a mirrored trail's lines and fixes are drawn mirrored, to the last digit.
     pub fn at(&self, value: f64) -> f64 {
         let off = (value - self.interval.middle()) * self.scale();
         (self.from + self.to) / 2.0 + (10.0 * off).round() / 10.0

@@ -3,7 +3,8 @@
 //! Which letters a viewer has nobody knows here: these widths are those of wide ones, so that words are rather shorter
 //! than this.
 
-/// The size of all words but the picture's name, and of that, which is bold.
+/// The size of all words but the picture's name, and what to reckon with for that, which has 17 and is bold: bold letters are
+/// wider.
 pub const SIZE: f64 = 12.0;
 pub const NAME_SIZE: f64 = 19.0;
 

@@ -153,7 +153,8 @@ fn the_writers_refusals_stand() {
     let ran = run("5 absolute 1 1\n4 step 40000 1\n6 step 1 1\n");
     assert_eq!(ran.status, Some(1));
     assert_eq!(folder.get("t"), record(&[(5, 1, 1), (6, 2, 2)]));
-    let span = "refused 9: The last time less the first is above 65,535.";
+    let span = "refused 9: The last time less the first is above 65,535. \
+                Two neighbouring fixes are 65536 seconds apart, and no trail has both.";
     run("1 absolute 1 1\n65537 step 1 1\n").fails(1, &format!("standard input, line 2: {span}"));
 }
 

@@ -28,7 +28,7 @@ fn times_are_taken_and_told_on_the_clock() {
     let ran = folder.run_line("cross h --box=5,10,-1,1 --window=6:0:0,06:00:30 --epoch=06:00:00");
     ran.says(&format!("{yes}; {NEVER}\n"));
     let visits = folder.run_line(&format!("cross h --all --box 5 10 -1 1 {window}"));
-    let first = "visit: in at 06:00:02.500, out between 06:00:05 and 06:00:06\n";
+    let first = ", at 06:00:02.500, out between 06:00:05 and 06:00:06\n";
     assert!(visits.text().contains(first), "{}", visits.text());
 }
 
@@ -85,6 +85,9 @@ fn what_is_no_time_is_wrong_usage() {
         "check h --epoch 24:00:00",
         "check h --epoch 06:00:00+1d",
         "check h --epoch 2026-02-29T00:00:00",
+        "check h --epoch 10000-01-01T00:00:00",
+        "check h --epoch 006:00:0",
+        "check h --epoch 2026-011-17T00:00:00",
         "check h --epoch",
         "check --epoch 06:00:00",
         "check h --epoch 06:00:00 --epoch 06:00:00",

@@ -146,6 +146,10 @@ fn geojson_has_places_in_metres_and_a_time_for_each() {
     folder
         .run_line("list --geojson --epoch 2026-11-17T06:00:00 t")
         .says(&format!("{START}{feature}]}}\n"));
+    // a time without its date would lose its day
+    let seconds = folder.run_line("list --geojson t");
+    let timed = folder.run_line("list --geojson --epoch 23:59:59 t");
+    assert_eq!(timed.text(), seconds.text());
 }
 
 /// Each stretch is a feature of its own, and one of a single fix is a point.

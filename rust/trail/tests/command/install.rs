@@ -46,6 +46,8 @@ fn is_there(program: &str) -> bool {
 /// Runs the script with these words, from a folder, in which relative names are.
 fn install(folder: &Folder, words: &[&str]) -> Ran {
     let mut command = Command::new(project().join("install"));
+    // a shell that looks for folders elsewhere too prints where it found them
+    let command = command.env("CDPATH", project());
     finished(folder, command.args(words))
 }
 

@@ -145,6 +145,7 @@ fn commands_are_completed() {
     assert_eq!(completed(&["che"]).0, ["check"]);
     assert_eq!(completed(&["--v"]).0, ["--version"]);
     assert_eq!(completed(&["help", "che"]).0, ["check"]);
+    assert_eq!(completed(&["help", ""]).0, commands(&folder));
     assert_eq!(completed(&["zzz"]), (Vec::new(), false));
 }
 

@@ -97,7 +97,7 @@ fn axes_are_on_the_clock() {
     let late = draw(&folder, "late");
     assert!(says(&late, "4294967294") && says(&late, "4294967295"));
     assert!(!late.contains("4294967296"));
-    let dated = draw(&folder, "late --epoch 99999-12-31T23:59:59");
+    let dated = draw(&folder, "late --epoch 9999-12-31T23:59:59");
     let zoomed = draw(&folder, "late --window 4294967295 4294967295 --zoom window");
     assert!(says(&zoomed, "4294967292") && !zoomed.contains("429496730"));
     for picture in [late, dated, zoomed] {

@@ -42,6 +42,15 @@ fn write(kind: Kind, more: &str) -> String {
 
 // ---- texts that are split
 
+/// So many fixes, as people read it.
+fn words_of(count: usize) -> String {
+    match count {
+        1 => "1 fix".into(),
+        thousands @ 1_000.. => format!("{},{:03} fixes", thousands / 1_000, thousands % 1_000),
+        few => format!("{few} fixes"),
+    }
+}
+
 /// The first fix of each record but the first is the last one of the record before, without its silence there.
 #[test]
 fn a_split_text_has_every_leg_in_one_record() {
@@ -65,7 +74,8 @@ fn a_split_text_has_every_leg_in_one_record() {
                 _ => format!("in {parts} trails, cart-001.trail to cart-{parts:03}.trail"),
             };
             let ran = folder.run_line(&write(kind, "--split cart.txt -o cart.trail"));
-            ran.says(&format!("cart.txt: {count} fixes {trails}\n"));
+            let fixes = words_of(count as usize);
+            ran.says(&format!("cart.txt: {fixes} {trails}\n"));
             let mut from = 0;
             for (number, size) in (1..).zip(sizes) {
                 let mut part = all[from..from + size].to_vec();
@@ -123,7 +133,8 @@ fn a_refused_split_stores_nothing() {
         (
             "# behind the cold store\n70536 0 0\n",
             5_002,
-            "9: The last time less the first is above 65,535.",
+            "9: The last time less the first is above 65,535. \
+             Two neighbouring fixes are 65537 seconds apart, and no trail has both.",
         ),
         (
             "4999 0 0\n",
@@ -158,18 +169,30 @@ fn a_refused_split_stores_nothing() {
 fn what_an_earlier_split_left_is_named() {
     let folder = Folder::new();
     let all = fixes(SILENCES, 9_000);
-    for (count, err) in [
-        (9_000, ""),
-        (
-            4_097,
-            "cart-003: it was there before, and isn't of this split\n",
-        ),
+    // what has another's name isn't a split's
+    for other in [
+        "cart-0009",
+        "cart-x",
+        "cart-05",
+        "carts-007",
+        "cart-008.trail",
+    ] {
+        folder.put(other, "");
+    }
+    for (count, left) in [
+        (9_000, None),
+        (4_097, Some("cart-003")),
+        (100, Some("cart-002, cart-003")),
     ] {
         folder.put("t", text(SILENCES, &all[..count]));
         let ran = folder.run_line("write --split t -o cart");
-        assert_eq!((ran.status, ran.err.as_str()), (Some(0), err));
+        let told = left.map(|names| format!("t: not of this split, but there before: {names}\n"));
+        assert_eq!((ran.status, ran.err), (Some(0), told.unwrap_or_default()));
     }
-    assert_eq!(folder.names(), ["cart-001", "cart-002", "cart-003", "t"]);
+    fs::remove_file(folder.path().join("cart-002")).expect("it is there");
+    let ran = folder.run_line("write --split t -o ./cart");
+    assert!(ran.err.ends_with(": ./cart-003\n"), "{}", ran.err);
+    assert_eq!(folder.names().len(), 8);
 }
 
 #[test]
@@ -191,7 +214,8 @@ fn programs_are_told_of_each_record_of_a_split() {
     let ran = folder.run_line("write --anchors --split sent -o s.t");
     let sentence = "refused 17: A value isn't finite, or isn't a whole number of sixteenths.";
     let refused = format!("sent, line 3: {sentence}\n");
-    let long = "sent, line 2: refused 9: The last time less the first is above 65,535.\n";
+    let long = "sent, line 2: refused 9: The last time less the first is above 65,535. \
+                Two neighbouring fixes are 65536 seconds apart, and no trail has both.\n";
     assert_eq!(ran.ended(), (Some(1), "", (refused + long).as_str()));
     folder.put("sent", "0 absolute 1 1\n65535 step 1 0\n65536 step 1 0\n");
     folder

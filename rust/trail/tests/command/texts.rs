@@ -192,7 +192,8 @@ fn a_refused_list_is_not_stored_and_its_line_is_named() {
         ),
         (
             "0 0 0\n65535 0 0\n65536 0 0\n",
-            "fixes, line 3: refused 9: The last time less the first is above 65,535.",
+            "fixes, line 3: refused 9: The last time less the first is above 65,535. \
+             --split makes several trails of them.",
         ),
         (
             "1 0 0 silence\n\n2 0 0 1 # and off\n",

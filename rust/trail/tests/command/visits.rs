@@ -9,19 +9,32 @@ use trails_tests::questions::Asked;
 
 use crate::folder::{silent_record, trail_h_at_12, Folder, NEVER};
 
+/// Lines of visits: when each began, as a fraction and on the clock, and how it ended.
+fn visits_told(visits: &[(&str, &str, &str)]) -> String {
+    let line = |(fraction, at, end): &(&str, &str, &str)| {
+        format!("visit: in {fraction} seconds after the first fix, at {at}, {end}\n")
+    };
+    visits.iter().map(line).collect()
+}
+
 #[test]
 fn visits_are_listed_with_their_seconds() {
     let folder = Folder::with_h();
     let asked = "cross h --all --window 0 30 --box";
     let ask = |edges: &str| folder.run_line(&format!("{asked} {edges}"));
     // h is at 5 to 10 on its way out and on its way back
-    let visits =
-        "visit: in at 2.500, out between 5 and 6\nvisit: in at 25.000, out between 27 and 28\n";
+    let visits = visits_told(&[
+        ("50/20", "2.500", "out between 5 and 6"),
+        ("500/20", "25.000", "out between 27 and 28"),
+    ]);
     ask("5 10 -1 1").says(&format!("yes, 2 visits; {NEVER}\n{visits}"));
     // it passes 7 between two whole seconds
-    let visits = "visit: in at 3.500, out between 3.500 and 4\nvisit: in at 26.500, out between 26.500 and 27\n";
+    let visits = visits_told(&[
+        ("70/20", "3.500", "out before 4"),
+        ("530/20", "26.500", "out before 27"),
+    ]);
     ask("7 7 0 0").says(&format!("yes, 2 visits; {NEVER}\n{visits}"));
-    let visit = "visit: in at 0.000, still in at 30\n";
+    let visit = visits_told(&[("0/1", "0.000", "still in at 30, when the window ends")]);
     ask("0 20 0 0").says(&format!("yes, 1 visit; {NEVER}\n{visit}"));
     ask("21 30 0 0").says(&format!("no; {NEVER}\n"));
     let answer = folder.run_line("cross h --all --window 0 30 --box 5 10 -1 1 --json");
@@ -53,13 +66,11 @@ fn a_silence_ends_a_visit() {
     folder.put("s", silent_record(&fixes));
     let answer = folder.run_line("cross s --all --box 5 9 0 0 --within");
     let unknown = "of the 2 silences in the window nothing is known";
-    let visits = [
-        "in at 5.555, silent from 10 to 11",
-        "in at 11.000, silent from 11 to 40",
-        "in at 40.000, still in at 50",
-    ]
-    .map(|visit| format!("visit: {visit}\n"))
-    .concat();
+    let visits = visits_told(&[
+        ("50/9", "5.555", "silent from 10 to 11"),
+        ("11/1", "11.000", "silent from 11 to 40"),
+        ("40/1", "40.000", "still in at 50, when the window ends"),
+    ]);
     answer.says(&format!("yes, 3 visits; {NEVER}; {unknown}\n{visits}"));
     let json = folder.run_line("cross s --all --box 5 9 0 0 --within --json");
     assert!(json
@@ -72,11 +83,13 @@ fn visits_of_a_thinned_trail_say_what_they_mean() {
     let folder = Folder::new();
     folder.put("aged", trail_h_at_12());
     let told =
-        "thinned at 12 cm: at each told moment the cart was in the box or within 12 cm of the \
-                box, and if it was in the box at another time of the window, outside these visits, \
-                it was within 12 cm of an edge";
-    let visits =
-        "visit: in at 2.500, out between 5 and 6\nvisit: in at 20.000, out between 25 and 26\n";
+        "thinned at 12 cm: when a visit began, and at each of its whole seconds, the cart was \
+                in the box or within 12 cm of the box, and if it was in the box at a time of the \
+                window outside these visits, it was within 12 cm of an edge";
+    let visits = visits_told(&[
+        ("50/20", "2.500", "out between 5 and 6"),
+        ("400/20", "20.000", "out between 25 and 26"),
+    ]);
     let answer = folder.run_line("cross aged --all --box 5 10 -1 1 --within");
     answer.says(&format!("yes, 2 visits; {told}\n{visits}"));
     let no = folder.run_line("cross aged --all --box 21 30 0 0 --within");
