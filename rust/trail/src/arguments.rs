@@ -183,14 +183,15 @@ impl Arguments {
         Ok(numbers.and_then(|numbers| numbers.into_iter().next()))
     }
 
-    /// What an option's word stands for, if it is given and one of these.
-    pub fn one_of<V: Copy>(&self, name: &str, all: &[(&str, V)]) -> Result<Option<V>, Failure> {
+    /// What an option's word stands for, if it is given: each of its words stands for the value at its place.
+    pub fn one_of<V: Copy>(&self, name: &str, all: &[V]) -> Result<Option<V>, Failure> {
+        let words = self.given(name).map_or(&[][..], |(choice, _)| choice.words);
         let meant = |word: &str| {
-            let found = all.iter().find(|(name, _)| *name == word);
-            found.map(|(_, value)| *value).ok_or_else(|| {
-                let names: Vec<&str> = all.iter().map(|(name, _)| *name).collect();
-                format!("{} isn't one of {}", words::quoted(word), names.join(", "))
-            })
+            let mut values = words.iter().zip(all);
+            let found = values.find(|(name, _)| **name == word);
+            let names = words.join(", ");
+            let wrong = || format!("{} isn't one of {names}", words::quoted(word));
+            found.map(|(_, value)| *value).ok_or_else(wrong)
         };
         let values = self.values(name, meant)?;
         Ok(values.and_then(|values| values.into_iter().next()))

@@ -26,7 +26,7 @@ the file 'trail' in a folder that bash-completion reads it is for all.
 /// unless it is told not to.
 const SCRIPT: &str = r#"# What bash completes the words of trail by. 'trail completion' prints it.
 _trail() {
-    local word=${COMP_WORDS[COMP_CWORD]} words='' values=0 number='' k
+    local word=${COMP_WORDS[COMP_CWORD]} words='' values=0 number='' only='' k
     COMPREPLY=()
     case $COMP_CWORD:${COMP_WORDS[1]} in
     1:* | 2:help)
@@ -47,7 +47,8 @@ _trail() {
         words=${words/ "${COMP_WORDS[k]}" / }
     done
     if ((values > 0)); then
-        [[ -z $number ]] || compopt +o default
+        [[ -z $number$only ]] || compopt +o default
+        [[ -z $only ]] || mapfile -t COMPREPLY < <(compgen -W "$only" -- "$word")
     elif [[ $word == -* ]]; then
         mapfile -t COMPREPLY < <(compgen -W "$words" -- "$word")
     fi
@@ -65,11 +66,11 @@ fn options(command: &Command) -> String {
     format!("    *:{name}) words=' {options} --help ' ;;\n")
 }
 
-/// How many values an option takes, and whether they are numbers.
+/// How many values an option takes, whether they are numbers, and the words that it takes if only some may stand there.
 fn values(choice: &Choice) -> String {
-    let (name, values) = (choice.name, choice.values.len());
+    let (name, values, words) = (choice.name, choice.values.len(), choice.words.join(" "));
     let number = if choice.range.is_some() { "yes" } else { "" };
-    format!("        {name}) values={values} number={number} ;;\n")
+    format!("        {name}) values={values} number={number} only='{words}' ;;\n")
 }
 
 fn script() -> String {

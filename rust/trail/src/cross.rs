@@ -50,8 +50,8 @@ file.
   --all         list every visit, each in a line: when it began, and between
                 which two whole seconds it ended. At the first of the two the
                 cart was still in the box, and at the second it wasn't; if it
-                was there at no whole second, only the second is told. If it was
-                out and in again between two whole seconds, that is one visit.
+                was there at no whole second, only the later one is told. If it
+                was out and in again between two of them, that is one visit.
                 A silence ends a visit: nobody knows whether the cart left. So
                 does a trail's end: of a split one the next may go on with it
   --epoch TIME  tell times on the clock; see 'trail help'

@@ -12,6 +12,8 @@ pub struct Choice {
     pub name: &'static str,
     pub values: &'static [&'static str],
     pub range: Option<Range>,
+    /// the words that its value may be, if only some may
+    pub words: &'static [&'static str],
 }
 
 const fn choice(
@@ -23,6 +25,19 @@ const fn choice(
         name,
         values,
         range,
+        words: &[],
+    }
+}
+
+/// An option that takes one of some words.
+const fn one_of(
+    name: &'static str,
+    value: &'static [&'static str],
+    words: &'static [&'static str],
+) -> Choice {
+    Choice {
+        words,
+        ..choice(name, value, None)
     }
 }
 
@@ -49,7 +64,7 @@ pub static OPTIONS: &[Choice] = &[
     choice("--point", &["X", "Y"], Some(Range::Places(None))),
     choice("--radius", &["R"], Some(Range::Radii)),
     choice("--original", &["FILE"], None),
-    choice("--zoom", &["TO"], None),
+    one_of("--zoom", &["TO"], &["window", "box", "point"]),
     choice("-o", &["OUT"], None),
 ];
 

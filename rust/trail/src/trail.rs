@@ -131,8 +131,10 @@ impl Trail {
             return Ok(Some(window));
         }
         let part = self.within(window);
-        let asked = trails::crosses(&self.bytes, area, part.unwrap_or(all));
-        asked.map_err(|refusal| self.refused(refusal))?;
+        if part.is_none() {
+            let asked = trails::crosses(&self.bytes, area, all);
+            asked.map_err(|refusal| self.refused(refusal))?;
+        }
         Ok(part)
     }
 

@@ -142,12 +142,7 @@ fn questions(arguments: &Arguments) -> Result<Questions, Failure> {
 
 /// What the axes show, which must be there.
 fn zoom(arguments: &Arguments, questions: &Questions) -> Result<Option<Zoom>, Failure> {
-    let all = [
-        ("window", Zoom::Window),
-        ("box", Zoom::Box),
-        ("point", Zoom::Point),
-    ];
-    let zoom = arguments.one_of("--zoom", &all)?;
+    let zoom = arguments.one_of("--zoom", &[Zoom::Window, Zoom::Box, Zoom::Point])?;
     let missing = match zoom {
         Some(Zoom::Window) if questions.window.is_none() => "--zoom window goes with --window S E",
         Some(Zoom::Box) if questions.area.is_none() => "--zoom box goes with --box X0 X1 Y0 Y1",

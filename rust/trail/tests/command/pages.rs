@@ -204,6 +204,15 @@ fn files_are_completed_and_numbers_are_not() {
     ] {
         assert_eq!(completed(words), nothing, "{words:?}");
     }
+    assert_eq!(
+        completed(&["plot", "--zoom", "b"]),
+        (vec!["box".to_string()], false)
+    );
+    assert_eq!(
+        completed(&["plot", "--zoom", ""]).0,
+        ["window", "box", "point"]
+    );
+    assert_eq!(completed(&["plot", "--zoom", "box", ""]), files);
     // an option ends the values of the one before
     let (options, _) = completed(&["cross", "--box", "1", "--json", "--w"]);
     assert_eq!(options, ["--window", "--within"]);
