@@ -144,7 +144,6 @@ fn a_moment_may_be_within_some_trails_alone() {
     ran.says("not asked; the trail has seconds 0 to 30\n");
 }
 
-/// A reader that hangs up ends the round.
 #[test]
 fn the_standard_input_is_one_file_of_many() {
     let folder = shift();
@@ -158,4 +157,15 @@ fn the_standard_input_is_one_file_of_many() {
     );
     let words = ["cross", "-", "-", "--box", "0", "9", "0", "9", "--within"];
     assert_eq!(folder.run_with(&words, &fine_h()).status, Some(2));
+}
+
+/// Answers that nobody hears aren't asked for, and no summary says that they were given.
+#[test]
+fn without_a_reader_the_round_ends() {
+    let folder = shift();
+    let words = [
+        "cross", "h", "silent", "--box", "0", "9", "0", "9", "--within",
+    ];
+    let ran = folder.run_in_shell("\"$@\" > /dev/full", &words);
+    ran.fails(3, "standard output: No space left on device (os error 28)");
 }

@@ -155,21 +155,18 @@ fn boxes_windows_and_circles_of_no_width_are_seen() {
     }
 }
 
-/// From 6 to 18 of h's 20, in a broad line; where the window begins is asked of `place`.
+/// Of the first leg, which takes ten seconds, from the third to the ninth, in a broad line.
 #[test]
 fn the_window_is_shown_on_the_plane() {
     let folder = of_each_kind();
-    for (name, far) in [("h", 200), ("fine", 204), ("silent", 200)] {
+    for name in KINDS {
         let picture = draw(&folder, &format!("{name} --window 3 9"));
         let on_plane = panel(&picture, "plane");
         let (trail, part) = (spots(&picture), lines(on_plane, "part").concat());
         assert_eq!(part.len(), 2, "{name}");
         let (start, wide) = (trail[0].0, trail[1].0 - trail[0].0);
         for (spot, tenths) in part.iter().zip([3, 9]) {
-            assert!(
-                (spot.0 - start - wide * tenths / 10).abs() <= 1,
-                "{name} {far}"
-            );
+            assert!((spot.0 - start - wide * tenths / 10).abs() <= 1, "{name}");
             assert_eq!(spot.1, trail[0].1);
         }
         assert!(says(&picture, "window"));
