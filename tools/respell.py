@@ -23,7 +23,7 @@ def files(ends):
 
 
 def is_function_proof(path):
-    return os.path.basename(path) in ("Proof.antt", "Answers.antt", "Invariants.antt")
+    return "/proofs/" in path and os.path.basename(path) in ("Proof.antt", "Answers.antt", "Invariants.antt")
 
 
 # `fixOf`, the fix that a struct of the code stands for, and `fix-of`, the fix at a position of a record's bytes, would fall together;
@@ -52,6 +52,10 @@ def declared(text):
         if m:
             for n in m.group(3).split(" "):
                 yield n
+        # what a law takes, and a name that a file has for another's
+        for n in re.findall(r"[({]([^\s(){}]+) : ", line) + re.findall(r"^ *use [^\n]* as ([^\s,}]+)", line) + re.findall(r"\S as ([^\s,}]+)[,}]", line):
+            if "-" in n:
+                yield n
 
 
 def imported(text):
@@ -68,7 +72,7 @@ def main():
     for p, t in texts.items():
         if p.endswith(".antt") and not is_function_proof(p):
             for n in declared(t):
-                if re.search(r"\w-\w", n) or re.search(r"^[a-z][A-Za-z0-9_-]*[A-Z]", n):
+                if re.search(r"\w-\w", n) or re.search(r"^[a-z].*[a-z][A-Z]", n):
                     if not re.search(r"[◌→≡≤<+*∷]", n) and snake(n) != n:
                         own.setdefault(n, set()).add(p)
         for module, n in imported(t):

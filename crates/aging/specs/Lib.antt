@@ -1,8 +1,7 @@
 -- What a reader must believe:
 pub mod Aging
 pub mod Tenfold
+pub mod Moved
 pub mod Answers
--- rows of numbers, computed on those definitions:
-pub mod Examples
 -- and what engineers prove of it:
 pub mod Laws

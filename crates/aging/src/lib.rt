@@ -1,9 +1,11 @@
 // The thinning layer: the agings, which thin a record in place, by tolerance and by days.
+#![tactic(auto)]
+
 ghost use Rattle.std.specs.Prelude.{◌≡◌, ◌<◌, ◌≤◌, length};
 ghost use Rattle.format.specs.Kinds.{layout};
 ghost use Rattle.format.specs.Format.{record_length, fixes};
 ghost use Rattle.record.specs.Checks.{IsAccepted};
-ghost use Rattle.table.specs.Answers.{table_of, on-day};
+ghost use Rattle.table.specs.Answers.{table_of, on_day};
 ghost use Rattle.aging.specs.Aging.{new_mark, thinned_record, age_refusal, age_answer, aged, apply_answer, days_answer, aged_by_days};
 ghost use Rattle.aging.specs.Answers.{counted, applied};
 ghost use Rattle.record.specs.Answers.{refused};
@@ -61,7 +63,7 @@ fn thin(b: &mut [u8], e: Tolerance) -> u32
 }
 
 // What an aging answers.
-#[derive(Drop)]
+#[derive(Clone, Copy)]
 pub enum Aged {
     Count(u32),
     Refused(u8),
@@ -96,7 +98,7 @@ pub fn age(b: &mut [u8], e: Tolerance) -> Aged
 }
 
 // The tolerance that days apply to a record, in its unit, if they apply one; or the refusal.
-#[derive(Drop)]
+#[derive(Clone, Copy)]
 pub enum Applied {
     NoTolerance,
     At(Tolerance),
@@ -105,7 +107,7 @@ pub enum Applied {
 
 // A tolerance of a table in a kind's unit, and no higher than the kind's tolerances go.
 fn in_unit(kind: Kind, t: OnDay) -> Applied
-    ensures { applied result ≡ answer_in_unit (layout kind) (on-day t) }
+    ensures { applied result ≡ answer_in_unit (layout kind) (on_day t) }
 {
     match t {
         OnDay::Refused(k) => Applied::Refused(k),

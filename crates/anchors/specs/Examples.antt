@@ -1,19 +1,20 @@
 -- READINGS IN NUMBERS. Floats by their bits, and what the papers say of them: the definitions and the code cannot be changed together without these rows. Each line is
 -- computed.
-use Rattle.std.specs.Prelude.{◌≡◌, ℕ, Bool, true, false, List, [], ◌∷◌, ℤ, pos, refl, Float}
+use Rattle.std.specs.Prelude.{◌≡◌, refl, Bool, true, false, List, [], ◌∷◌, map, ℕ, ℤ, pos, Float}
 use Rattle.std.proofs.Math.Option.{some, none}
 use Rattle.std.specs.Float.{binary32}
 use Rattle.std.specs.Float.Ieee.{of_bits, add}
-use Rattle.distance.specs.Examples.{Computes, minus}
+use Rattle.distance.proofs.Examples.{Computes, minus}
 use Rattle.distance.specs.Place.{Point, point_at}
 use Rattle.distance.specs.Rounding.{half_up, with_sign_of, rounded}
+use Rattle.format.specs.Format.{each}
 use Rattle.record.specs.Checks.{sentence, first}
-use Rattle.record.specs.Answers.{Answer, gives, turns-away}
+use Rattle.record.specs.Answers.{Answer, gives, turns_away}
 use Rattle.anchors.specs.declared.State.{State}
 use Rattle.anchors.specs.declared.Reading.{Reading}
 use Rattle.anchors.specs.declared.Reading.TheVariants.{Absolute, Step}
 use Rattle.anchors.specs.Anchors.{sixteenths, anchor_answer, state_after}
-use Rattle.anchors.specs.Claim.{after_all, accepted}
+use Rattle.anchors.specs.Claim.{after_all, accepted, column_readings}
 
 abbrev float : ℕ → Float
 float = of_bits binary32
@@ -66,7 +67,7 @@ abbrev at : (x y : ℤ) → State → Answer Point × State
 at x y s = (gives (point_at x y), s)
 
 abbrev refuses : ℕ → State → Answer Point × State
-refuses k s = (turns-away k, s)
+refuses k s = (turns_away k, s)
 
 abbrev start : State
 start = state 0 0 false
@@ -121,3 +122,50 @@ list = step 0x3d800000 0 ∷ absolute 0x3ee00000 0 ∷ step 0x3ee00000 0x3d80000
 pub list_computed : (accepted start list ≡ absolute 0x3ee00000 0 ∷ step 0x3ee00000 0x3d800000 ∷ step 0xbd800000 0 ∷ []) × (after_all start list ≡ state 0x3f500000 0x3d800000 true)
 unfolding of_bits add sixteenths first sentence accepted after_all
 list_computed = (refl, refl)
+
+-- ---- a list as it is lent: the flags, and the bits of x and of y
+abbrev columns : List ℕ × List ℕ × List ℕ → List Reading
+columns c = column_readings c.0 (map float c.1) (map float c.2)
+
+pub columns_computed : Computes columns
+    -- 0 is an absolute place, and every other number a step; x and y each from their own column
+    ((
+      (
+        0 ∷ 1 ∷ 2 ∷ 255 ∷ [],
+        0x3f800000 ∷ 0x3d800000 ∷ 0 ∷ 0xbf000000 ∷ [],
+        0x40000000 ∷ 0 ∷ 0x3d800000 ∷ 0xc67a0000 ∷ [],
+      ),
+      absolute 0x3f800000 0x40000000 ∷ step 0x3d800000 0 ∷ step 0 0x3d800000 ∷ step 0xbf000000 0xc67a0000 ∷ [],
+    )
+    -- the shortest column decides, whichever it is
+    ∷ ((0 ∷ [], 1 ∷ 2 ∷ 3 ∷ [], 4 ∷ 5 ∷ []), absolute 1 4 ∷ [])
+    ∷ ((0 ∷ 1 ∷ 0 ∷ [], 1 ∷ 2 ∷ [], 4 ∷ 5 ∷ 6 ∷ []), absolute 1 4 ∷ step 2 5 ∷ [])
+    ∷ ((1 ∷ 0 ∷ 0 ∷ [], 1 ∷ 2 ∷ 3 ∷ [], 4 ∷ []), step 1 4 ∷ [])
+    -- an empty one leaves no reading
+    ∷ (([], [], []), [])
+    ∷ (([], 1 ∷ [], 4 ∷ []), [])
+    ∷ ((0 ∷ [], [], 4 ∷ []), [])
+    ∷ ((0 ∷ [], 1 ∷ [], []), [])
+    ∷ [])
+unfolding of_bits each
+columns_computed = refl
+
+-- .. and the state afterwards: from 1 and 2 a sixteenth to the right and one up, a step that is refused, and half a
+-- centimetre back
+pub columns_read : Computes (λ (c : List ℕ × List ℕ × List ℕ). after_all start (columns c))
+    ((
+      (
+        0 ∷ 1 ∷ 255 ∷ 2 ∷ 3 ∷ [],
+        0x3f800000 ∷ 0x3d800000 ∷ 0 ∷ 0x3d000000 ∷ 0xbf000000 ∷ [],
+        0x40000000 ∷ 0 ∷ 0x3d800000 ∷ 0 ∷ 0 ∷ [],
+      ),
+      state 0x3f100000 0x40040000 true,
+    )
+    -- two places: the later one stands
+    ∷ ((0 ∷ 0 ∷ [], 0x3f800000 ∷ 0x40000000 ∷ [], 0 ∷ 0x3f800000 ∷ []), state 0x40000000 0x3f800000 true)
+    -- a step before any place is refused, and with one column empty nothing is read
+    ∷ ((1 ∷ [], 0x3f800000 ∷ [], 0 ∷ []), start)
+    ∷ ((0 ∷ [], 0x3f800000 ∷ [], []), start)
+    ∷ [])
+unfolding of_bits add sixteenths first sentence each after_all
+columns_read = refl

@@ -1,29 +1,29 @@
 // Floats counted in sixteenths of a centimetre.
 ghost use Rattle.std.specs.Prelude.{◌≡◌};
 ghost use Rattle.anchors.specs.Anchors.{sixteenths};
-ghost use Rattle.anchors.specs.Answers.{count_of, exactOf};
+ghost use Rattle.anchors.specs.Answers.{count_of, exact_of};
 ghost use Rattle.anchors.specs.Laws.Reading.{capped, pair};
 
 // A length along an axis, with its sign, in sixteenths of a centimetre.
-#[derive(Drop)]
+#[derive(Clone, Copy)]
 pub struct Sixteenths(pub i32);
 
 // A place, or a step from one.
-#[derive(Drop)]
+#[derive(Clone, Copy)]
 pub struct Exact {
     pub x: Sixteenths,
     pub y: Sixteenths,
 }
 
 // How many sixteenths a float is, or that it is no whole number of them.
-#[derive(Drop)]
+#[derive(Clone, Copy)]
 pub enum Value {
     Uncounted,
     Of(Sixteenths),
 }
 
 // A place or a step in sixteenths, or none: of two floats, if one is no whole number of them; of a state, if no step can go from it.
-#[derive(Drop)]
+#[derive(Clone, Copy)]
 pub enum Counted {
     Nothing,
     Of(Exact),
@@ -53,7 +53,7 @@ pub fn count(v: f32) -> Value
 
 // Both coordinates of a place or a step.
 pub fn count_both(x: f32, y: f32) -> Counted
-    ensures { exactOf result ≡ pair (capped (sixteenths x)) (capped (sixteenths y)) }
+    ensures { exact_of result ≡ pair (capped (sixteenths x)) (capped (sixteenths y)) }
 {
     let a = count(x);
     let b = count(y);

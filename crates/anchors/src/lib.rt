@@ -1,4 +1,6 @@
 // Ceiling anchors, which report in floats: each reading becomes a place, and nothing is lost on the way.
+#![tactic(auto)]
+
 mod count;
 
 ghost use Rattle.std.specs.Prelude.{◌≡◌, ◌≤◌, pos, ◌+ℤ◌, unsigned_abs};
@@ -7,21 +9,21 @@ ghost use Rattle.record.specs.Checks.{beyond};
 ghost use Rattle.record.specs.Answers.{answer, unless};
 ghost use Rattle.anchors.specs.Anchors.{anchor_answer, state_after, NothingLost};
 ghost use Rattle.anchors.specs.Claim.{after_all, AnchorClaim, reading_of, column_readings};
-ghost use Rattle.anchors.specs.Answers.{answered, state-left, exactOf, place_of};
+ghost use Rattle.anchors.specs.Answers.{answered, state_left, exact_of, place_of};
 ghost use Rattle.anchors.specs.Laws.Reading.{exactly, check_19, rounded_from, within, last_exact, moved, Addable};
 
 use crate::count::{Counted, Exact, Sixteenths, count_both};
 use distance::{Coordinate, Point};
 
 // What an anchor sends, in centimetres: where the cart is, or how far it went since the last place.
-#[derive(Drop)]
+#[derive(Clone, Copy)]
 pub enum Reading {
     Absolute(f32, f32),
     Step(f32, f32),
 }
 
 // The last place, in centimetres, and whether there is one. Whoever hands one in may have put anything there.
-#[derive(Drop)]
+#[derive(Clone, Copy)]
 pub struct State {
     pub x: f32,
     pub y: f32,
@@ -29,7 +31,7 @@ pub struct State {
 }
 
 // What a reading answers: the new state and its place, rounded to whole centimetres, or the state as it was and the refusal.
-#[derive(Drop)]
+#[derive(Clone, Copy)]
 pub enum Anchored {
     At(State, Point),
     Refused(State, u8),
@@ -53,7 +55,7 @@ fn rounded(n: Sixteenths) -> Coordinate
 
 // The new state, which stands at p, or 19.
 fn arrived(s: State, new: State, p: Exact) -> Anchored
-    ensures { (answered result ≡ answer (check_19 (place_of p)) (rounded_from (place_of p))) × (state-left result ≡ unless (check_19 (place_of p)) s new) }
+    ensures { (answered result ≡ answer (check_19 (place_of p)) (rounded_from (place_of p))) × (state_left result ≡ unless (check_19 (place_of p)) s new) }
 {
     if beyond(p) {
         return Anchored::Refused(s, 19);
@@ -67,7 +69,7 @@ fn arrived(s: State, new: State, p: Exact) -> Anchored
 
 // A place, unless it is outside.
 fn inside(c: Counted) -> Counted
-    ensures { exactOf result ≡ within (exactOf c) }
+    ensures { exact_of result ≡ within (exact_of c) }
 {
     match c {
         Counted::Nothing => Counted::Nothing,
@@ -82,7 +84,7 @@ fn inside(c: Counted) -> Counted
 
 // The place from which a step can go: nothing where check 18 turns the state away.
 fn last_place(s: State) -> Counted
-    ensures { exactOf result ≡ last_exact s }
+    ensures { exact_of result ≡ last_exact s }
 {
     if s.seen {
         return inside(count_both(s.x, s.y));
@@ -108,7 +110,7 @@ fn moved(p: Exact, d: Exact) -> Exact
 }
 
 fn absolute(s: State, x: f32, y: f32) -> Anchored
-    ensures { (answered result ≡ anchor_answer s (Reading.Absolute x y)) × (state-left result ≡ state_after s (Reading.Absolute x y)) }
+    ensures { (answered result ≡ anchor_answer s (Reading.Absolute x y)) × (state_left result ≡ state_after s (Reading.Absolute x y)) }
 {
     let c = count_both(x, y);
     match c {
@@ -118,7 +120,7 @@ fn absolute(s: State, x: f32, y: f32) -> Anchored
 }
 
 fn step(s: State, x: f32, y: f32) -> Anchored
-    ensures { (answered result ≡ anchor_answer s (Reading.Step x y)) × (state-left result ≡ state_after s (Reading.Step x y)) }
+    ensures { (answered result ≡ anchor_answer s (Reading.Step x y)) × (state_left result ≡ state_after s (Reading.Step x y)) }
 {
     let c = count_both(x, y);
     match c {
@@ -142,7 +144,7 @@ fn step(s: State, x: f32, y: f32) -> Anchored
 
 // Reads what an anchor sends, given the state that the reading before it left.
 pub fn read(s: State, r: Reading) -> Anchored
-    ensures { (answered result ≡ anchor_answer s r) × (state-left result ≡ state_after s r) × NothingLost s r (state-left result) }
+    ensures { (answered result ≡ anchor_answer s r) × (state_left result ≡ state_after s r) × NothingLost s r (state_left result) }
 {
     match r {
         Reading::Absolute(x, y) => absolute(s, x, y),
@@ -152,7 +154,7 @@ pub fn read(s: State, r: Reading) -> Anchored
 
 // The state that a reading leaves.
 fn left(a: Anchored) -> State
-    ensures { result ≡ state-left a }
+    ensures { result ≡ state_left a }
 {
     match a {
         Anchored::At(s, _) => s,

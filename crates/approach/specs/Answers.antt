@@ -1,7 +1,7 @@
 -- What the structs and enums of the code say, as the paper's numbers and values. `declared.X` is the struct or enum X of the code, and `.0` the number in a
 -- struct of one field.
 use Rattle.std.proofs.Math.Option.{Option, some, none}
-use Rattle.record.specs.Answers.{Answer, gives, turns-away}
+use Rattle.record.specs.Answers.{Answer, gives, turns_away}
 use Rattle.approach.specs.declared.Part.{Part}
 use Rattle.approach.specs.declared.Nearing.{Nearing}
 use Rattle.approach.specs.declared.Nearing.TheVariants as Find
@@ -18,4 +18,4 @@ nearing Find.Never = none
 abbrev pub approached : Approached → Answer (Option Approach)
 approached (Say.Told A) = gives (some A)
 approached Say.Denied = gives none
-approached (Say.Refused k) = turns-away k
+approached (Say.Refused k) = turns_away k

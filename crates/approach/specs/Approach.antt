@@ -1,5 +1,5 @@
 -- WHEN WAS IT NEAR? Document 02, item 2: "Hygiene asks by a point and an unsigned radius, in whole centimetres. The answer is yes exactly if at some fractional
--- time of the trail the place is within the radius. Yes names the first leg that comes that close (counted from 0, or 0 for a one_fix trail) and the earliest time
+-- time of the trail the place is within the radius. Yes names the first leg that comes that close (counted from 0, or 0 for a one-fix trail) and the earliest time
 -- of closest approach on it, a fraction of free form, denominator above 0, after the first fix." Item 5: "For crossings and radius questions only the two ends of a
 -- silent leg count." Item 8: "points, radii [..] are in the record's unit." `declared.X` is the struct X of the code.
 use Rattle.std.specs.Prelude.{cond, List, [], ◌∷◌, ℕ, suc, ◌+◌, ◌*◌, ◌-◌, ◌≤◌, ◌<◌, leb, ℤ, pos, nat_abs, ◌+ℤ◌, ◌-ℤ◌, ◌*ℤ◌}
@@ -11,7 +11,7 @@ use Rattle.distance.specs.Place.{Time, From, Until, AskedOf, first_time, after_f
 use Rattle.distance.specs.Silence.{silent, OutsideSilences}
 use Rattle.format.specs.Format.{kind_of, fixes}
 use Rattle.record.specs.Checks.{Given, asked_of, nothing, refusal_of, approaching, checks, sentence, FirstHolds}
-use Rattle.record.specs.Answers.{Answer, gives, turns-away, answer, or_else}
+use Rattle.record.specs.Answers.{Answer, gives, turns_away, answer, or_else}
 use Rattle.approach.specs.declared.Vector.{Vector}
 use Rattle.approach.specs.declared.Part.{Part}
 use Rattle.approach.specs.declared.Approach.{Approach}
@@ -23,7 +23,7 @@ pub record Comes (l : List Fix) (c : Point) (r : ℕ) (u : Time) : Type 0 where
   pub heard : OutsideSilences l u
   pub near : Near r (place l u) (point_place c)
 
--- Leg i of a trail goes from a to b, "counted from 0, or 0 for a one_fix trail", whose only fix is both.
+-- Leg i of a trail goes from a to b, "counted from 0, or 0 for a one-fix trail", whose only fix is both.
 pub data IsLeg : List Fix → ℕ → Fix → Fix → Type 0 where
   lone : {a : Fix} → IsLeg (a ∷ []) 0 a a
   here : {a b : Fix} {l : List Fix} → IsLeg (a ∷ b ∷ l) 0 a b
@@ -152,4 +152,4 @@ near_answer b c r = answer (near_refusal b c r) (first_near (fixes b) c r)
 -- What an answer says of lent bytes, whatever computed it. (`near_answer_means` of Laws/Checking.antt: `near_answer` says it truly.)
 abbrev pub NearMeans : List ℕ → Point → (r : ℕ) → Answer (Option Approach) → Type 0
 NearMeans b c r (gives o) = MeansNear (fixes b) c r o
-NearMeans b c r (turns-away k) = FirstHolds (sentence (kind_of b) (asked_of b (asked_near c r))) k (checks approaching)
+NearMeans b c r (turns_away k) = FirstHolds (sentence (kind_of b) (asked_of b (asked_near c r))) k (checks approaching)

@@ -1,7 +1,6 @@
 -- What a reader must believe:
 pub mod Approach
+pub mod Tenfold
 pub mod Answers
--- rows of numbers, computed on those definitions:
-pub mod Examples
 -- and what engineers prove of it:
 pub mod Laws

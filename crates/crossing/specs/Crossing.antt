@@ -12,7 +12,7 @@ use Rattle.distance.specs.Box.{Box, In}
 use Rattle.format.specs.Kinds.{Kind}
 use Rattle.format.specs.Format.{kind_of, fixes}
 use Rattle.record.specs.Checks.{Given, asked_of, nothing, refusal_of, crossing, checks, sentence, FirstHolds}
-use Rattle.record.specs.Answers.{Answer, gives, turns-away, answer, or_else}
+use Rattle.record.specs.Answers.{Answer, gives, turns_away, answer, or_else}
 use Rattle.legs.specs.declared.Fraction.{Fraction}
 use Rattle.legs.specs.Legs.{raised, framed, leg_first}
 use Rattle.legs.specs.declared.Frame.{Frame}
@@ -100,4 +100,4 @@ cross_answer b s e box = answer (cross_refusal b s e box) (first_crossing (fixes
 -- number is that of the first of the crossing's checks whose sentence holds. (`cross_means` of Laws/Checking.antt: `cross_answer` says it truly.)
 abbrev pub CrossMeans : List ℕ → (s e : ℕ) → Box → Answer (Option Fraction) → Type 0
 CrossMeans b s e box (gives o) = Means (kind_of b).limit (fixes b) box s e o
-CrossMeans b s e box (turns-away k) = FirstHolds (sentence (kind_of b) (asked_of b (asked_crossing s e box))) k (checks crossing)
+CrossMeans b s e box (turns_away k) = FirstHolds (sentence (kind_of b) (asked_of b (asked_crossing s e box))) k (checks crossing)

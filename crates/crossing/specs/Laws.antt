@@ -1,6 +1,2 @@
 -- What is proved of the definitions, each law once.
-pub mod Crossing
-pub mod Moved
-pub mod Tenfold
 pub mod Search
-pub mod Checking

@@ -1,7 +1,5 @@
 -- What a reader must believe:
 pub mod Crossing
 pub mod Answers
--- rows of numbers, computed on those definitions:
-pub mod Examples
 -- and what engineers prove of it:
 pub mod Laws

@@ -1,4 +1,6 @@
 // The questions layer: when a trail crosses a box.
+#![tactic(auto)]
+
 ghost use Rattle.std.specs.Prelude.{◌≡◌, cond, suc, ◌≤◌, length};
 ghost use Rattle.std.specs.Int.Signed.{lt_z};
 ghost use Rattle.std.proofs.Math.Option.{none};
@@ -10,7 +12,7 @@ ghost use Rattle.record.specs.Checks.{IsAccepted};
 ghost use Rattle.legs.specs.Legs.{raised, framed};
 ghost use Rattle.crossing.specs.Crossing.{first_from, cross_refusal, cross_answer, CrossMeans};
 ghost use Rattle.legs.specs.Answers.{meeting};
-ghost use Rattle.crossing.specs.Answers.{crossed, boxOf};
+ghost use Rattle.crossing.specs.Answers.{crossed, box_of};
 ghost use Rattle.record.specs.Laws.Trail.{from};
 ghost use Rattle.legs.specs.Laws.Legs.{BoxInWidest};
 ghost use Rattle.legs.specs.Laws.Ranges.{Reach};
@@ -22,14 +24,14 @@ use legs::{Fraction, Frame, Meeting, Raised, leg_first, offset_of, raise};
 use record::{Checked, outside};
 
 // The window of a crossing, both ends included.
-#[derive(Drop)]
+#[derive(Clone, Copy)]
 pub struct Window {
     pub start: Seconds,
     pub end: Seconds,
 }
 
 // A box in the unit of the record, its edges included: left and right are the low and the high edge of x, bottom and top those of y.
-#[derive(Drop)]
+#[derive(Clone, Copy)]
 pub struct Edges {
     pub left: Coordinate,
     pub right: Coordinate,
@@ -38,7 +40,7 @@ pub struct Edges {
 }
 
 // What the crossing question answers: yes with the earliest time, or no, or the refusal.
-#[derive(Drop)]
+#[derive(Clone, Copy)]
 pub enum Crossed {
     Told(Fraction),
     Denied,
@@ -48,8 +50,8 @@ pub enum Crossed {
 // ---- the box and the fixes, counted
 
 fn framed(e: Edges) -> Frame
-    requires { BoxInWidest (boxOf e) }
-    ensures { result ≡ framed (boxOf e) }
+    requires { BoxInWidest (box_of e) }
+    ensures { result ≡ framed (box_of e) }
 {
     Frame {
         left: offset_of(e.left),
@@ -142,7 +144,7 @@ fn edges_swapped(low: Coordinate, high: Coordinate) -> bool
 
 // Check 14, by a kind's limit.
 fn edges_outside(e: Edges, limit: u32) -> bool
-    ensures { result ≡ edges_outside limit (boxOf e) }
+    ensures { result ≡ edges_outside limit (box_of e) }
 {
     outside(e.left, limit)
         | (outside(e.right, limit)
@@ -163,7 +165,7 @@ fn told(r: Meeting) -> Crossed
 // Checks 13 and 14, of a record that is accepted.
 fn question_says(b: &[u8], kind: Kind, w: Window, e: Edges) -> Checked
     requires { IsAccepted b.now × (layout kind ≡ kind_of b.now) }
-    ensures { refused result ≡ cross_refusal b.now w.start.0 w.end.0 (boxOf e) }
+    ensures { refused result ≡ cross_refusal b.now w.start.0 w.end.0 (box_of e) }
 {
     let n = format::count_at(b);
     if window_outside(w, second_at(b, kind, 0), second_at(b, kind, n - 1)) {
@@ -177,7 +179,7 @@ fn question_says(b: &[u8], kind: Kind, w: Window, e: Edges) -> Checked
 
 // The crossing's checks: 1 to 9, 20, 13 and 14.
 pub fn cross_says(b: &[u8], w: Window, e: Edges) -> Checked
-    ensures { refused result ≡ cross_refusal b.now w.start.0 w.end.0 (boxOf e) }
+    ensures { refused result ≡ cross_refusal b.now w.start.0 w.end.0 (box_of e) }
 {
     let v = record::check(b);
     match v {
@@ -188,8 +190,8 @@ pub fn cross_says(b: &[u8], w: Window, e: Edges) -> Checked
 
 // The answer to a question that none of its checks turns away.
 pub fn cross_asked(b: &[u8], w: Window, e: Edges) -> Crossed
-    requires { cross_refusal b.now w.start.0 w.end.0 (boxOf e) ≡ none }
-    ensures { crossed result ≡ cross_answer b.now w.start.0 w.end.0 (boxOf e) }
+    requires { cross_refusal b.now w.start.0 w.end.0 (box_of e) ≡ none }
+    ensures { crossed result ≡ cross_answer b.now w.start.0 w.end.0 (box_of e) }
 {
     let kind = kind_at(b);
     let n = format::count_at(b);
@@ -201,7 +203,7 @@ pub fn cross_asked(b: &[u8], w: Window, e: Edges) -> Crossed
 
 // Whether the trail of a record crosses a box in a window, and the earliest time in seconds after the first fix.
 pub fn crosses(b: &[u8], w: Window, e: Edges) -> Crossed
-    ensures { (crossed result ≡ cross_answer b.now w.start.0 w.end.0 (boxOf e)) × CrossMeans b.now w.start.0 w.end.0 (boxOf e) (crossed result) }
+    ensures { (crossed result ≡ cross_answer b.now w.start.0 w.end.0 (box_of e)) × CrossMeans b.now w.start.0 w.end.0 (box_of e) (crossed result) }
 {
     let v = cross_says(b, w, e);
     match v {

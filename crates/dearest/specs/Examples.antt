@@ -1,18 +1,18 @@
 -- THE DEAREST TRAIL IN NUMBERS. What document 02's item 13 says of some n, written out: the definitions and the code cannot be changed together without these rows.
 -- Each line is computed.
-use Rattle.std.specs.Prelude.{◌≡◌, refl, List, [], ◌∷◌, ◌++◌, ℕ, ℤ, pos}
+use Rattle.std.specs.Prelude.{◌≡◌, refl, List, [], ◌∷◌, ◌++◌, ℕ, ◌+◌, ◌*◌, ◌-◌, ℤ, pos}
 use Rattle.std.proofs.Math.Option.{Option, some, none}
 use Rattle.distance.specs.Distance.{deviation, allowance}
-use Rattle.distance.specs.Examples.{Computes, minus}
+use Rattle.distance.proofs.Examples.{Computes, minus}
 use Rattle.distance.specs.Fix.{last_of}
 use Rattle.format.specs.Bytes.{bytes_of, unsigned}
 use Rattle.format.specs.Kinds.{trail}
 use Rattle.format.specs.Format.{each, fix_to, fix_bytes, all_bytes, header_bytes, record_bytes}
 use Rattle.record.specs.Checks.{first, sentence, refusal, writing_dearest}
-use Rattle.record.specs.Answers.{gives, turns-away}
+use Rattle.record.specs.Answers.{Answer, gives, turns_away}
 use Rattle.writing.specs.Writing.{asked_to_write}
 use Rattle.thinning.specs.Thinning.{sooner, furthest, every, but_last, thin_span, thin, joined, stretches, thin_each, thinning, greatest_count}
-use Rattle.dearest.specs.Dearest.{dearest_y, dearest_fix, dearest, dearest_answer, dearest_written}
+use Rattle.dearest.specs.Dearest.{dearest_y, dearest_fix, dearest, dearest_answer, dearest_written, dearest_marked, dearest_count}
 
 -- ---- n and i, and the y of fix i: "n − 1 − i, plus for even i and minus for odd"
 abbrev pub y_rows : List ((ℕ × ℕ) × ℤ)
@@ -63,7 +63,7 @@ abbrev pub of_sevens : (n : ℕ) → List ℕ
 of_sevens n = each (λ (i : ℕ). 7) 0 n
 
 pub bytes_computed : (dearest_answer 4 (of_sevens 44) ≡ gives 42) × (dearest_written 4 (of_sevens 44) ≡ four_bytes ++ 7 ∷ 7 ∷ [])
-    × (dearest_answer 4 (of_sevens 41) ≡ turns-away 15) × (dearest_written 4 (of_sevens 41) ≡ of_sevens 41)
+    × (dearest_answer 4 (of_sevens 41) ≡ turns_away 15) × (dearest_written 4 (of_sevens 41) ≡ of_sevens 41)
 unfolding first sentence each dearest_fix record_bytes header_bytes all_bytes fix_bytes fix_to bytes_of unsigned
 bytes_computed = (refl, refl, refl, refl)
 
@@ -78,3 +78,46 @@ counts_computed = refl
 -- n and the greatest count, also of the longest trail
 pub greatest_computed : Computes greatest_count ((1, 0) ∷ (2, 0) ∷ (3, 1) ∷ (4, 3) ∷ (20, 171) ∷ (4095, 8378371) ∷ (4096, 8382465) ∷ [])
 greatest_computed = refl
+
+-- ---- 1, 2 AND 3 FIXES in an output of 35 bytes: what writing answers and puts down, and what aging that at 1 answers
+-- and leaves. The bytes after the record stay.
+abbrev pub three_fixes : List ℕ
+three_fixes =
+    0 ∷ 0 ∷ 0 ∷ 0 ∷ 0 ∷ 0 ∷ 2 ∷ 0
+    ∷ 1 ∷ 0 ∷ 0 ∷ 0 ∷ 0 ∷ 0 ∷ 255 ∷ 255
+    ∷ 2 ∷ 0 ∷ 0 ∷ 0 ∷ 0 ∷ 0 ∷ 0 ∷ 0 ∷ []
+
+abbrev pub two_fixes : List ℕ
+two_fixes = 0 ∷ 0 ∷ 0 ∷ 0 ∷ 0 ∷ 0 ∷ 1 ∷ 0 ∷ 1 ∷ 0 ∷ 0 ∷ 0 ∷ 0 ∷ 0 ∷ 0 ∷ 0 ∷ []
+
+abbrev pub one_fix : List ℕ
+one_fix = 0 ∷ 0 ∷ 0 ∷ 0 ∷ 0 ∷ 0 ∷ 0 ∷ 0 ∷ []
+
+-- a record of n fixes of kind 1 under a mark of these two bytes, and sevens after it up to 35 bytes
+abbrev pub with_head : (n low high : ℕ) → List ℕ → List ℕ
+with_head n low high l =
+    (10 + 8 * n) ∷ 0 ∷ 0 ∷ 0 ∷ 1 ∷ 0 ∷ low ∷ high ∷ n ∷ 0 ∷ (l ++ of_sevens (25 - 8 * n))
+
+pub written_computed :
+    Computes {B = Answer ℕ × List ℕ} (λ (n : ℕ). (dearest_answer n (of_sevens 35), dearest_written n (of_sevens 35)))
+    ((1, (gives 18, with_head 1 255 255 one_fix))
+    ∷ (2, (gives 26, with_head 2 255 255 two_fixes))
+    ∷ (3, (gives 34, with_head 3 255 255 three_fixes))
+    ∷ (4, (turns_away 15, of_sevens 35))
+    ∷ (0, (turns_away 3, of_sevens 35))
+    ∷ (4097, (turns_away 3, of_sevens 35))
+    ∷ [])
+unfolding first sentence each dearest_fix record_bytes header_bytes all_bytes fix_bytes fix_to bytes_of unsigned
+written_computed = refl
+
+pub marked_computed :
+    Computes {B = Answer ℕ × List ℕ} (λ (n : ℕ). (dearest_count n (of_sevens 35), dearest_marked 1 n (of_sevens 35)))
+    ((1, (gives 0, with_head 1 1 0 one_fix))
+    ∷ (2, (gives 0, with_head 2 1 0 two_fixes))
+    ∷ (3, (gives 1, with_head 3 1 0 three_fixes))
+    ∷ (4, (turns_away 15, of_sevens 35))
+    ∷ (0, (turns_away 3, of_sevens 35))
+    ∷ (4097, (turns_away 3, of_sevens 35))
+    ∷ [])
+unfolding first sentence each dearest_fix record_bytes header_bytes all_bytes fix_bytes fix_to bytes_of unsigned
+marked_computed = refl

@@ -3,5 +3,3 @@ pub mod Dearest
 pub mod Claim
 -- rows of numbers, computed on those definitions:
 pub mod Examples
--- and what engineers prove of it:
-pub mod Laws

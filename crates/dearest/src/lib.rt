@@ -1,4 +1,6 @@
 // The dearest trail: of so many fixes the one whose thinning measures the most, to size a controller by. It is written as a record that was never thinned.
+#![tactic(auto)]
+
 ghost use Rattle.std.specs.Prelude.{◌≡◌, ◌<◌, ◌≤◌, length};
 ghost use Rattle.std.proofs.lemmas.List.Edits.{sets};
 ghost use Rattle.distance.specs.Fix.{fix_of};

@@ -1,6 +1,6 @@
 -- TENFOLD: what is k times as far from the middle of the hall on each axis, at the same time. Document 02, item 8, has places in millimetres beside those in
 -- centimetres, and ten of them make one: a place in centimetres is in millimetres its tenfold.
-use Rattle.std.specs.Prelude.{ℕ, ℤ, pos, ◌*ℤ◌}
+use Rattle.std.specs.Prelude.{ℕ, pos, ◌*ℤ◌}
 use Rattle.distance.specs.Fix.{Fix}
 use Rattle.distance.specs.Place.{Place}
 use Rattle.distance.specs.Box.{Box}

@@ -1,4 +1,6 @@
 // The distance layer: units, the fix, how far an inner fix of a span is from the chord of its two ends, and a place rounded.
+#![tactic(auto)]
+
 pub mod words;
 
 ghost use Rattle.std.specs.Prelude.{◌≡◌, ◌+◌, ◌≤◌, pos, nat_abs, ◌-ℤ◌};
@@ -12,34 +14,34 @@ ghost use Rattle.distance.specs.Words.{WordsOf};
 use crate::words::{Words, sum_of_squares};
 
 // A time on the fixes' own clock. Times and lengths have types of their own, so that neither can stand for the other.
-#[derive(Drop)]
+#[derive(Clone, Copy)]
 pub struct Seconds(pub u32);
 
 // Whole seconds from one time of a record to a later one, which its checks keep to 65,535: how long a span or a leg takes, and, counted from the first fix,
 // when a leg begins and when a window opens and closes. It is neither a time on the clock nor a length.
-#[derive(Drop)]
+#[derive(Clone, Copy)]
 pub struct Duration(pub u16);
 
 // A coordinate of a place, in the unit of the record that it is of: the record's kind says which. The work below is the same in every unit.
-#[derive(Drop)]
+#[derive(Clone, Copy)]
 pub struct Coordinate(pub i32);
 
 // A length that isn't negative, in the record's unit: how far a dropped fix may be from its chord.
-#[derive(Drop)]
+#[derive(Clone, Copy)]
 pub struct Tolerance(pub u16);
 
 // A point of the plane, in whole numbers of a unit: one that is asked about, or a place rounded.
-#[derive(Drop)]
+#[derive(Clone, Copy)]
 pub struct Point {
     pub x: Coordinate,
     pub y: Coordinate,
 }
 
 // What follows a fix: 1 is a silence, and 0 none. A record's byte may say anything; check 20 turns the rest away.
-#[derive(Drop)]
+#[derive(Clone, Copy)]
 pub struct Silence(pub u8);
 
-#[derive(Drop)]
+#[derive(Clone, Copy)]
 pub struct Fix {
     pub t: Seconds,
     pub x: Coordinate,
@@ -65,7 +67,7 @@ fn axis_deviation(i: Coordinate, m: Coordinate, j: Coordinate, d: Duration, s: D
 }
 
 // Nx and Ny of an inner fix.
-#[derive(Drop)]
+#[derive(Clone, Copy)]
 struct PerAxis {
     x: i64,
     y: i64,
@@ -103,7 +105,7 @@ pub fn deviation_words(i: Fix, m: Fix, j: Fix) -> Words
     sum_of_squares(magnitude(n.x), magnitude(n.y))
 }
 
-// typeof.e².D² of the span from i to j.
+// e²·D² of the span from i to j.
 pub fn allowance(e: Tolerance, i: Fix, j: Fix) -> u64
     requires { Chord (fix_of i) (fix_of j) }
     ensures { result ≡ allowance e.0 (fix_of i) (fix_of j) }

@@ -4,7 +4,7 @@ ghost use Rattle.distance.specs.Words.{value, WordsOf};
 ghost use Rattle.distance.specs.Laws.Words.{PartsOf};
 
 // high · 2³² + low. Each number that is handed out has low below 2³², so that it has these words and no others.
-#[derive(Drop)]
+#[derive(Clone, Copy)]
 pub struct Words {
     pub high: u64,
     pub low: u64,

@@ -1,4 +1,2 @@
 -- What a reader must believe:
 pub mod Interface
--- and what engineers prove of it:
-pub mod Laws

@@ -2,7 +2,7 @@
 ghost use Rattle.std.specs.Prelude.{◌≡◌};
 ghost use Rattle.anchors.specs.Anchors.{state_after, NothingLost};
 ghost use Rattle.anchors.specs.Claim.{after_all, AnchorClaim, column_readings};
-ghost use Rattle.anchors.specs.Answers.{answered, state-left};
+ghost use Rattle.anchors.specs.Answers.{answered, state_left};
 ghost use Rattle.export.specs.Interface.{state_of, state_numbers, anchored_numbers, read_numbers};
 
 use crate::{AnchorState, Anchored};
@@ -37,7 +37,7 @@ fn state_numbers(s: State) -> AnchorState
 
 // What a reading answers, as numbers: a refusal with the very state that was handed in.
 fn anchored_of(s: AnchorState, a: anchors::Anchored) -> Anchored
-    ensures { result ≡ anchored_numbers s (answered a) (state-left a) }
+    ensures { result ≡ anchored_numbers s (answered a) (state_left a) }
 {
     match a {
         anchors::Anchored::At(t, p) => {

@@ -1,5 +1,7 @@
 // The interface for programs in other languages: thin functions over the layers, with numbers for answers. A refusal is its number, and 0 is none.
 // None asks anything of its caller, since nothing would check that. include/trails.h says the same to a C programmer.
+#![tactic(auto)]
+
 mod anchors_of;
 mod questions_of;
 mod tables_of;
@@ -27,7 +29,7 @@ use writing::Written;
 
 // Whether a record was accepted, and then what its head says.
 #[repr(C)]
-#[derive(Drop)]
+#[derive(Clone, Copy)]
 pub struct Head {
     pub refusal: u32,
     pub kind: u32,
@@ -38,7 +40,7 @@ pub struct Head {
 // A refusal, or a fix, where one was found, and the kind of its record, which says the unit of its place; silence is 1 where one follows the fix, and 0 where none
 // does.
 #[repr(C)]
-#[derive(Drop)]
+#[derive(Clone, Copy)]
 pub struct Step {
     pub refusal: u32,
     pub found: u32,
@@ -51,7 +53,7 @@ pub struct Step {
 
 // A refusal, or a value.
 #[repr(C)]
-#[derive(Drop)]
+#[derive(Clone, Copy)]
 pub struct Answer {
     pub refusal: u32,
     pub value: u32,
@@ -59,7 +61,7 @@ pub struct Answer {
 
 // A refusal, or the table that was loaded, which is one without rows where there is a refusal.
 #[repr(C)]
-#[derive(Drop)]
+#[derive(Clone, Copy)]
 pub struct Loaded {
     pub refusal: u32,
     pub table: Table,
@@ -67,7 +69,7 @@ pub struct Loaded {
 
 // A refusal, or whether days apply a tolerance to a record, and which, in its unit.
 #[repr(C)]
-#[derive(Drop)]
+#[derive(Clone, Copy)]
 pub struct Applied {
     pub refusal: u32,
     pub applies: u32,
@@ -76,7 +78,7 @@ pub struct Applied {
 
 // A refusal, or how many calls of a list were turned away.
 #[repr(C)]
-#[derive(Drop)]
+#[derive(Clone, Copy)]
 pub struct Run {
     pub refusal: u32,
     pub turned_away: usize,
@@ -84,7 +86,7 @@ pub struct Run {
 
 // A refusal, or the place (x/denominator, y/denominator) and the rounded one.
 #[repr(C)]
-#[derive(Drop)]
+#[derive(Clone, Copy)]
 pub struct Spot {
     pub refusal: u32,
     pub denominator: u32,
@@ -96,7 +98,7 @@ pub struct Spot {
 
 // A refusal, or whether the box is crossed and then the time numerator/denominator, in seconds after the first fix.
 #[repr(C)]
-#[derive(Drop)]
+#[derive(Clone, Copy)]
 pub struct Crossing {
     pub refusal: u32,
     pub crosses: u32,
@@ -107,7 +109,7 @@ pub struct Crossing {
 // A refusal, or whether the trail comes near the point, and then the first leg that does, counted from 0, and the time of closest approach on it,
 // numerator/denominator seconds after the first fix.
 #[repr(C)]
-#[derive(Drop)]
+#[derive(Clone, Copy)]
 pub struct Approach {
     pub refusal: u32,
     pub approaches: u32,
@@ -118,7 +120,7 @@ pub struct Approach {
 
 // An anchor's last place, in centimetres, and whether there is one: 0 for no.
 #[repr(C)]
-#[derive(Drop)]
+#[derive(Clone, Copy)]
 pub struct AnchorState {
     pub x: f32,
     pub y: f32,
@@ -127,7 +129,7 @@ pub struct AnchorState {
 
 // A refusal and the state as it was, or the place, rounded to whole centimetres, and the new state.
 #[repr(C)]
-#[derive(Drop)]
+#[derive(Clone, Copy)]
 pub struct Anchored {
     pub refusal: u32,
     pub x: i32,

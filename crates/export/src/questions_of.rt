@@ -5,7 +5,7 @@ ghost use Rattle.distance.specs.Box.{box_with};
 ghost use Rattle.format.specs.Format.{never, mark_field};
 ghost use Rattle.record.specs.Checks.{IsAccepted};
 ghost use Rattle.moment.specs.Answers.{placed};
-ghost use Rattle.crossing.specs.Answers.{crossed, boxOf};
+ghost use Rattle.crossing.specs.Answers.{crossed, box_of};
 ghost use Rattle.approach.specs.Answers.{approached};
 ghost use Rattle.moment.specs.Moment.{place_answer};
 ghost use Rattle.crossing.specs.Crossing.{cross_answer, CrossMeans};
@@ -111,7 +111,7 @@ fn window(start: u32, end: u32) -> Window
 }
 
 fn edges(left: i32, right: i32, bottom: i32, top: i32) -> Edges
-    ensures { boxOf result ≡ box_with left right bottom top }
+    ensures { box_of result ≡ box_with left right bottom top }
 {
     Edges {
         left: Coordinate(left),

@@ -1,7 +1,7 @@
 -- THE FORMAT IN NUMBERS: what document 01 writes out, and document 02's items 5 and 8. The definitions and the code cannot be changed together without these
 -- rows. Each line is computed.
 use Rattle.std.specs.Prelude.{◌≡◌, refl, List, [], ◌∷◌, map, ℕ, take, pos}
-use Rattle.distance.specs.Examples.{minus}
+use Rattle.distance.proofs.Examples.{minus}
 use Rattle.distance.specs.Fix.{Fix, widest}
 use Rattle.format.specs.Bytes.{number_at, bytes_of, signed, unsigned}
 use Rattle.format.specs.Kinds.{Kind, trail, millimetre_trail, silence_trail, kinds}

@@ -1,8 +1,2 @@
--- What is proved of the definitions, each law once.
-pub mod Kinds
-pub mod Each
-pub mod Numbers
-pub mod Stores
-pub mod Layout
-pub mod RoundTrip
+-- The relations by which inner functions are specified.
 pub mod Changed

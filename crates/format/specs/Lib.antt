@@ -4,5 +4,5 @@ pub mod Kinds
 pub mod Format
 -- rows of numbers, computed on those definitions:
 pub mod Examples
--- and what engineers prove of it:
+-- and relations by which inner functions are specified:
 pub mod Laws

@@ -1,5 +1,7 @@
 // The format of a trail record: where the head's fields and the fixes stand in its bytes. What they may say is the record layer's to check.
 // The functions that read ask for the bytes that they read, and those that store for the bytes that they store to.
+#![tactic(auto)]
+
 mod kinds;
 mod numbers;
 
@@ -22,7 +24,7 @@ pub use kinds::{
 };
 
 // The kinds of record: in centimetres, in millimetres, and in centimetres with silences. What each has otherwise is behind the matches of this crate.
-#[derive(Drop)]
+#[derive(Clone, Copy)]
 pub enum Kind {
     Trail,
     MillimetreTrail,
@@ -30,14 +32,14 @@ pub enum Kind {
 }
 
 // The unit of a record's places and of all lengths that are asked of it.
-#[derive(Drop)]
+#[derive(Clone, Copy)]
 pub enum Unit {
     Centimetres,
     Millimetres,
 }
 
 // What a record's head says of it.
-#[derive(Drop)]
+#[derive(Clone, Copy)]
 pub struct Head {
     pub kind: u32,
     pub count: u32,

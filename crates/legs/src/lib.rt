@@ -1,5 +1,7 @@
 // The questions layer: when one leg of a trail is in a box. Whole seconds are 16-bit numbers after the first fix, and places are offsets above the lowest
 // one, so that no number is negative. Lengths are in the unit of the record, and nothing here asks which one that is.
+#![tactic(auto)]
+
 mod fractions;
 mod leg;
 
@@ -8,15 +10,15 @@ pub use leg::{leg_first, offset_of, raise};
 
 // How far a place is above −160,000, the lowest one of the widest kind of record. It serves every kind: from one place to another it is as far, wherever the
 // counting begins.
-#[derive(Drop)]
+#[derive(Clone, Copy)]
 pub struct Offset(pub u32);
 
 // How far it is from one place of an axis to another: a length, where an offset is a place and a tolerance is asked for.
-#[derive(Drop)]
+#[derive(Clone, Copy)]
 pub struct Extent(pub u32);
 
 // A fix in seconds after the first one, no number of it negative.
-#[derive(Drop)]
+#[derive(Clone, Copy)]
 pub struct Raised {
     pub t: Duration,
     pub x: Offset,
@@ -24,7 +26,7 @@ pub struct Raised {
 }
 
 // A box, no number of it negative.
-#[derive(Drop)]
+#[derive(Clone, Copy)]
 pub struct Frame {
     pub left: Offset,
     pub right: Offset,
@@ -33,21 +35,21 @@ pub struct Frame {
 }
 
 // The time num/den seconds after the first fix.
-#[derive(Drop)]
+#[derive(Clone, Copy)]
 pub struct Fraction {
     pub num: u64,
     pub den: u32,
 }
 
 // The times from the first to the last, both included.
-#[derive(Drop)]
+#[derive(Clone, Copy)]
 pub struct Times {
     pub first: Fraction,
     pub last: Fraction,
 }
 
 // The first time of some, or none.
-#[derive(Drop)]
+#[derive(Clone, Copy)]
 pub enum Meeting {
     At(Fraction),
     Never,

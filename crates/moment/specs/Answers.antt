@@ -1,7 +1,7 @@
 -- What the enums of the code say, as the paper's numbers and values.
 -- `declared.X` is the struct or enum X of the code, `TheVariants` the cases of an enum, and `.0` the number in a struct of one field.
 use Rattle.std.specs.Prelude.{pos}
-use Rattle.record.specs.Answers.{Answer, gives, turns-away}
+use Rattle.record.specs.Answers.{Answer, gives, turns_away}
 use Rattle.moment.specs.declared.Spot.{Spot}
 use Rattle.moment.specs.declared.Placed.{Placed}
 use Rattle.moment.specs.declared.Placed.TheVariants as Place
@@ -13,4 +13,4 @@ standing s = record { exact = record { x = s.x; y = s.y; d = pos s.d }; rounded_
 
 abbrev pub placed : Placed → Answer Standing
 placed (Place.At s) = gives (standing s)
-placed (Place.Refused k) = turns-away k
+placed (Place.Refused k) = turns_away k

@@ -3,7 +3,5 @@ pub mod Moment
 pub mod Mirror
 pub mod Tenfold
 pub mod Answers
--- rows of numbers, computed on those definitions:
-pub mod Examples
 -- and what engineers prove of it:
 pub mod Laws

@@ -3,7 +3,7 @@
 use Rattle.std.specs.Prelude.{ℕ, List}
 use Rattle.distance.specs.Mirror.{Mirror, mirrored, mirrored_fix, mirrored_place}
 use Rattle.format.specs.Format.{changed}
-use Rattle.record.specs.Answers.{Answer, gives, turns-away}
+use Rattle.record.specs.Answers.{Answer, gives, turns_away}
 use Rattle.moment.specs.Moment.{Standing}
 
 -- A record with each of its fixes mirrored.
@@ -17,4 +17,4 @@ mirrored_standing m s = record { exact = mirrored_place m s.exact; rounded_x = m
 -- An answer: what is given is mirrored, and a refusal's number stays.
 abbrev pub mirrored_answer : Mirror → Answer Standing → Answer Standing
 mirrored_answer m (gives s) = gives (mirrored_standing m s)
-mirrored_answer m (turns-away k) = turns-away k
+mirrored_answer m (turns_away k) = turns_away k

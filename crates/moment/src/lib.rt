@@ -1,4 +1,6 @@
 // The questions layer: where a trail is at a moment.
+#![tactic(auto)]
+
 ghost use Rattle.std.specs.Prelude.{◌≡◌, ◌&&◌, ◌+◌, ◌*◌, ◌≤◌, pos, nat_abs};
 ghost use Rattle.distance.specs.Fix.{fix_of, widest};
 ghost use Rattle.distance.specs.Place.{instant, own, leg, interpolated, place};
@@ -15,7 +17,7 @@ use format::Kind;
 use record::Checked;
 
 // The place (x/d, y/d) in the unit of the record, and beside it the rounded one.
-#[derive(Drop)]
+#[derive(Clone, Copy)]
 pub struct Spot {
     pub x: i64,
     pub y: i64,
@@ -24,18 +26,18 @@ pub struct Spot {
 }
 
 // What the place question answers.
-#[derive(Drop)]
+#[derive(Clone, Copy)]
 pub enum Placed {
     At(Spot),
     Refused(u8),
 }
 
 // A moment on the fixes' own clock, in thousandths of a second.
-#[derive(Drop)]
+#[derive(Clone, Copy)]
 pub struct Instant(pub u64);
 
 // The thousandths of a second from one moment to a later one of the same leg.
-#[derive(Drop)]
+#[derive(Clone, Copy)]
 pub struct Thousandths(pub u32);
 
 fn instant_of(s: Seconds, m: u16) -> Instant

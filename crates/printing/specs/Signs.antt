@@ -7,7 +7,7 @@ use mir.Val.{Fits, SFits, hbits, to_z, of_z}
 use Rattle.std.proofs.Math.Facts.{sfits_widen}
 use Rattle.distance.specs.Integers.Differences.{diffs}
 use Rattle.distance.specs.Integers.Order.{lt_z_false, zero_le}
-use Rattle.format.specs.Laws.Numbers.{false_true}
+use Rattle.format.proofs.Laws.Numbers.{false_true}
 
 -- A coordinate fits 64 bits.
 pub widened : {w : Width} {z : ℤ} → T (leb (hbits w) (hbits w64)) → SFits w z → SFits w64 (to_z w (of_z w z))

@@ -8,7 +8,7 @@ use Rattle.distance.specs.Box.{Box}
 use Rattle.format.specs.Kinds.{Kind}
 use Rattle.format.specs.Format.{never, fixes}
 use Rattle.record.specs.Checks.{read_refusal}
-use Rattle.record.specs.Answers.{Answer, gives, turns-away, answer, unless}
+use Rattle.record.specs.Answers.{Answer, gives, turns_away, answer, unless}
 use Rattle.table.specs.Table.{table_at}
 use Rattle.thinning.specs.Thinning.{thinned}
 use Rattle.aging.specs.Aging.{Call, by_tolerance, by_days, left_by, answered, applies}
@@ -26,7 +26,7 @@ run b (c ∷ calls) = run (left_by b c) calls
 -- refusal, each asked of the buffer as the one before left it.
 abbrev pub one_if_refused : Answer ℕ → ℕ
 one_if_refused (gives n) = 0
-one_if_refused (turns-away k) = 1
+one_if_refused (turns_away k) = 1
 
 unfoldable pub refused_calls : List ℕ → List Call → ℕ
 refused_calls b [] = 0
@@ -98,7 +98,7 @@ counts_as (some E) = E
 
 -- ---- a list of calls as numbers, beside a lent list of tables (`table_at` of the table's Table.antt). Below 65,536 a number is a tolerance. From there on it is a
 -- day, n % 65,536, by one of the tables, which n / 65,536 counts from 1. Every number is a call, and every list of calls that anybody could make has its numbers and
--- tables (`by_number` and `Numbers-of` of Laws/Calls.antt).
+-- tables (`by_number` and `numbers_of` of Laws/Calls.antt).
 unfoldable pub call_of : (tables : List ℕ) → ℕ → Call
 call_of tables n = cond (ltb n 65536) (by_tolerance n) (by_days (n % 65536) (table_at tables (n / 65536 - 1)))
 

@@ -9,7 +9,7 @@ use Rattle.distance.specs.Silence.{in_silence, OutsideSilences}
 use Rattle.distance.specs.Box.{Box, In, NearBox, NearSide}
 use Rattle.format.specs.Format.{kind_of, mark_field, length_field, fixes}
 use Rattle.record.specs.Checks.{IsAccepted, bad_window, bad_box, bad_point, sentence, FirstHolds, asked_of}
-use Rattle.record.specs.Answers.{Answer, gives, turns-away}
+use Rattle.record.specs.Answers.{Answer, gives, turns_away}
 use Rattle.aging.specs.Aging.{Call}
 use Rattle.legs.specs.declared.Fraction.{Fraction}
 use Rattle.crossing.specs.Crossing.{Told, Denied, asked_crossing, cross_answer}
@@ -20,7 +20,7 @@ use Rattle.questions.specs.Agings.{Book, new_book, fed_all, run, after_answer, n
 -- What the crossing's answer on the aged record c says of the original, for one window from s to e and one box.
 pub data CrossingSays (E : ℕ) (original : List Fix) (c : List ℕ) (s e : ℕ) (box : Box) : Answer (Option Fraction) → Type 0 where
   -- turned away by 13 or 14 and by nothing else, the first of the two whose sentence holds
-  says_refused : {k : ℕ} → FirstHolds (sentence (kind_of c) (asked_of c (asked_crossing s e box))) k (bad_window ∷ bad_box ∷ []) → CrossingSays E original c s e box (turns-away k)
+  says_refused : {k : ℕ} → FirstHolds (sentence (kind_of c) (asked_of c (asked_crossing s e box))) k (bad_window ∷ bad_box ∷ []) → CrossingSays E original c s e box (turns_away k)
   -- told: true of the aged trail, and that time is outside the original's silences, and then the original is within E of the box
   says_told : {f : Fraction} (t : Told (kind_of c).limit (fixes c) box s e f.num f.den) → OutsideSilences original (after_first (fixes c) f.num f.den t.some_denominator)
       → NearBox E box (place original (after_first (fixes c) f.num f.den t.some_denominator)) → CrossingSays E original c s e box (gives (some f))
@@ -32,7 +32,7 @@ pub data CrossingSays (E : ℕ) (original : List Fix) (c : List ℕ) (s e : ℕ)
 -- radius r means that the original came within r + E."
 pub data NearSays (E : ℕ) (original : List Fix) (c : List ℕ) (p : Point) (r : ℕ) : Answer (Option Approach) → Type 0 where
   -- turned away by 16 and by nothing else, whose sentence holds
-  says_outside : {k : ℕ} → FirstHolds (sentence (kind_of c) (asked_of c (asked_near p r))) k (bad_point ∷ []) → NearSays E original c p r (turns-away k)
+  says_outside : {k : ℕ} → FirstHolds (sentence (kind_of c) (asked_of c (asked_near p r))) k (bad_point ∷ []) → NearSays E original c p r (turns_away k)
   -- yes: true of the aged trail, and at that time, which is outside its silences, the original is within r + E of the point
   says_near : {A : Approach} (t : ToldNear (fixes c) p r A.leg A.num A.den) → Comes original p (r + E) (after_first (fixes c) A.num A.den t.some_denominator)
       → NearSays E original c p r (gives (some A))

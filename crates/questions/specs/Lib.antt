@@ -5,6 +5,3 @@ pub mod Claim
 pub mod Tenfold
 -- the worked trails, computed on those definitions:
 pub mod Worked
-pub mod Examples
--- and what engineers prove of them:
-pub mod Laws

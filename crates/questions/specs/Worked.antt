@@ -5,7 +5,7 @@
 use Rattle.std.specs.Prelude.{◌≡◌, refl, List, [], ◌∷◌, ◌++◌, map, ℕ, length, take, drop, ℤ, pos}
 use Rattle.std.proofs.Math.Option.{Option, some, none}
 use Rattle.std.proofs.Common.{arith}
-use Rattle.distance.specs.Examples.{minus}
+use Rattle.distance.proofs.Examples.{minus}
 use Rattle.distance.specs.Fix.{Fix, last_of}
 use Rattle.distance.specs.Distance.{deviation, allowance}
 use Rattle.distance.specs.Box.{Box, box_with}
@@ -17,7 +17,7 @@ use Rattle.format.specs.Bytes.{number_at, bytes_of, signed, unsigned}
 use Rattle.format.specs.Kinds.{Kind, trail, millimetre_trail, silence_trail}
 use Rattle.format.specs.Format.{kind_of, never, mark_field, record_length, fixes, fix_from, fix_at, each, fix_to, fix_bytes, all_bytes, header_bytes, record_bytes}
 use Rattle.record.specs.Checks.{first, sentence, some_outside, some_other_silence, some_early, some_early_after, of_ends, read_refusal}
-use Rattle.record.specs.Answers.{Answer, gives, turns-away, answer, SameAnswer}
+use Rattle.record.specs.Answers.{Answer, gives, turns_away, answer, SameAnswer}
 use Rattle.writing.specs.Writing.{write_refusal, written}
 use Rattle.thinning.specs.Thinning.{sooner, furthest, every, but_last, thin_span, thin, joined, stretches, thin_each, thinning}
 use Rattle.aging.specs.Aging.{by_tolerance, left_by, answered, new_mark, thinned_record}
@@ -25,7 +25,7 @@ use Rattle.legs.specs.declared.Fraction.{Fraction}
 use Rattle.moment.specs.Moment.{Standing, on_leg, moment_from, at_moment, place_answer}
 use Rattle.legs.specs.Legs.{later_of, earlier_of, first_of, axis_times, leg_times, leg_first}
 use Rattle.crossing.specs.Crossing.{first_from, first_crossing, cross_answer, SameCrossing}
-use Rattle.crossing.specs.Examples.{yes_at}
+use Rattle.crossing.proofs.Examples.{yes_at}
 
 -- ---- WHAT A ROW ASKS of a trail
 pub data Question : Type 0 where
@@ -63,7 +63,7 @@ recorded K l = written K l (output K l)
 -- Each aging gets the buffer as the one before it left it; the first that is turned away is the answer.
 abbrev pub unless_refused : Answer ℕ → (ℕ → Answer Left) → Answer Left
 unless_refused (gives c) next = next c
-unless_refused (turns-away k) next = turns-away k
+unless_refused (turns_away k) next = turns_away k
 
 abbrev pub aged_all : (b : List ℕ) (count : ℕ) (tolerances : List ℕ) → Answer Left
 aged_all b count [] = gives (record { kept = fixes b; count = count; mark = mark_field b })
@@ -214,15 +214,15 @@ rows_below =
     ∷ row trail_l (cross box_l 5 10) no_crossing
     -- "Tolerance 32,000 passes, 32,001 is 10.", of trail c, whose middle fix then goes
     ∷ row trail_c (age_at (32000 ∷ [])) (keeps (0 ∷ 2 ∷ []) none none)
-    ∷ row trail_c (age_at (32001 ∷ [])) (turns-away 10)
+    ∷ row trail_c (age_at (32001 ∷ [])) (turns_away 10)
     -- "Span 65,535 passes, 65,536 is 9."
     ∷ row (span 65535) write nothing_refused
     ∷ row (span 65535) (read never) nothing_refused
-    ∷ row (span 65536) write (turns-away 9)
-    ∷ row (span 65536) (read never) (turns-away 9)
+    ∷ row (span 65536) write (turns_away 9)
+    ∷ row (span 65536) (read never) (turns_away 9)
     -- "Equal times are 8."
-    ∷ row (span 0) write (turns-away 8)
-    ∷ row (span 0) (read never) (turns-away 8)
+    ∷ row (span 0) write (turns_away 8)
+    ∷ row (span 0) (read never) (turns_away 8)
     -- and of "The leg is the first whose end isn't earlier than the moment": at the second fix it is the leg that ends there
     ∷ row (trail_k ++ fix 30 0 0 ∷ []) (place_at 10 0) (stands_at (pos 50000) (minus 50000) (pos 10000) (pos 5) (minus 5))
     -- and of a moment whose thousandths have three different digits, 1.234: 5·1234 over 10,000
@@ -264,14 +264,14 @@ millimetre_rows =
     ∷ millimetre_row words_apart (age_at (60000 ∷ [])) (keeps (0 ∷ 1 ∷ 2 ∷ 3 ∷ []) (some 3) none)
     -- "tolerance and mark up to 60,000 or never": 60,000 passes, 60,001 is 10; a mark of 60,000 passes, 60,001 is 6
     ∷ millimetre_row (tenfold trail_c) (age_at (60000 ∷ [])) (keeps (0 ∷ 2 ∷ []) none (some 60000))
-    ∷ millimetre_row (tenfold trail_c) (age_at (60001 ∷ [])) (turns-away 10)
+    ∷ millimetre_row (tenfold trail_c) (age_at (60001 ∷ [])) (turns_away 10)
     ∷ millimetre_row trail_c (read 60000) nothing_refused
-    ∷ millimetre_row trail_c (read 60001) (turns-away 6)
+    ∷ millimetre_row trail_c (read 60001) (turns_away 6)
     -- "places −160,000 to 160,000"
     ∷ millimetre_row (record { t = 0; x = pos 160000; y = minus 160000; silence = 0 } ∷ []) write nothing_refused
-    ∷ millimetre_row (record { t = 0; x = pos 160001; y = pos 0; silence = 0 } ∷ []) write (turns-away 7)
+    ∷ millimetre_row (record { t = 0; x = pos 160001; y = pos 0; silence = 0 } ∷ []) write (turns_away 7)
     ∷ millimetre_row (record { t = 0; x = pos 160000; y = minus 160000; silence = 0 } ∷ []) (read never) nothing_refused
-    ∷ millimetre_row (record { t = 0; x = pos 0; y = minus 160001; silence = 0 } ∷ []) (read never) (turns-away 7)
+    ∷ millimetre_row (record { t = 0; x = pos 0; y = minus 160001; silence = 0 } ∷ []) (read never) (turns_away 7)
     ∷ []
 
 -- ---- SILENCES. Document 02, item 5: kind 3, with silence where a fix says so.
@@ -294,7 +294,7 @@ silence_rows =
     ∷ silence_row (fix 0 0 0 ∷ silent_fix 10 20 0 ∷ fix 20 20 0 ∷ fix 30 0 0 ∷ []) (age_at (25 ∷ 12 ∷ [])) (keeps (0 ∷ 1 ∷ 2 ∷ 3 ∷ []) (some 0) (some 25))
     ∷ silence_row trail_h (age_at (25 ∷ 12 ∷ [])) (keeps (0 ∷ 3 ∷ []) none (some 25))
     -- 21 "if the moment is strictly inside a silence", and not at its two ends
-    ∷ silence_row silent_k (place_at 1 0) (turns-away 21)
+    ∷ silence_row silent_k (place_at 1 0) (turns_away 21)
     ∷ silence_row silent_k (place_at 0 0) (stands_at (pos 0) (pos 0) (pos 10000) (pos 0) (pos 0))
     ∷ silence_row silent_k (place_at 10 0) (stands_at (pos 50000) (minus 50000) (pos 10000) (pos 5) (minus 5))
     -- "For crossings [..] only the two ends of a silent leg count."
@@ -303,12 +303,12 @@ silence_rows =
     ∷ silence_row silent_l (cross (box_with (pos 33) (pos 100) (minus 5) (pos 5)) 0 10) (yes_at 10 1)
     ∷ silence_row silent_l (cross (box_with (pos 0) (pos 100) (minus 5) (pos 5)) 1 9) no_crossing
     -- 20 "if a silence byte is neither 0 nor 1 or the last fix has 1"
-    ∷ silence_row (record { t = 0; x = pos 0; y = pos 0; silence = 2 } ∷ fix 1 0 0 ∷ []) write (turns-away 20)
-    ∷ silence_row (record { t = 0; x = pos 0; y = pos 0; silence = 2 } ∷ fix 1 0 0 ∷ []) (read never) (turns-away 20)
-    ∷ silence_row (fix 0 0 0 ∷ silent_fix 1 0 0 ∷ []) write (turns-away 20)
-    ∷ silence_row (fix 0 0 0 ∷ silent_fix 1 0 0 ∷ []) (read never) (turns-away 20)
+    ∷ silence_row (record { t = 0; x = pos 0; y = pos 0; silence = 2 } ∷ fix 1 0 0 ∷ []) write (turns_away 20)
+    ∷ silence_row (record { t = 0; x = pos 0; y = pos 0; silence = 2 } ∷ fix 1 0 0 ∷ []) (read never) (turns_away 20)
+    ∷ silence_row (fix 0 0 0 ∷ silent_fix 1 0 0 ∷ []) write (turns_away 20)
+    ∷ silence_row (fix 0 0 0 ∷ silent_fix 1 0 0 ∷ []) (read never) (turns_away 20)
     -- "directly after 9"
-    ∷ silence_row (silent_fix 0 0 0 ∷ silent_fix 65536 0 0 ∷ []) (read never) (turns-away 9)
+    ∷ silence_row (silent_fix 0 0 0 ∷ silent_fix 65536 0 0 ∷ []) (read never) (turns_away 9)
     ∷ silence_row (silent_fix 0 0 0 ∷ fix 65535 0 0 ∷ []) write nothing_refused
     ∷ []
 

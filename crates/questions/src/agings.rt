@@ -4,7 +4,7 @@ ghost use Rattle.format.specs.Format.{never, mark_field};
 ghost use Rattle.record.specs.Checks.{IsAccepted};
 ghost use Rattle.aging.specs.Aging.{left_by, answered};
 ghost use Rattle.aging.specs.Answers.{counted};
-ghost use Rattle.crossing.specs.Answers.{crossed, boxOf};
+ghost use Rattle.crossing.specs.Answers.{crossed, box_of};
 ghost use Rattle.distance.specs.Place.{point_of};
 ghost use Rattle.approach.specs.Answers.{approached};
 ghost use Rattle.questions.specs.Agings.{run, one_if_refused, refused_calls, run_answer, after_answer, left_after, near_after_answer, near_left_after, call_of, calls_of};
@@ -19,7 +19,7 @@ use record::Checked;
 use table::Days;
 
 // What making a list answers: how many of its calls were turned away, or the record's refusal.
-#[derive(Drop)]
+#[derive(Clone, Copy)]
 pub enum Ran {
     TurnedAway(usize),
     Refused(u8),
@@ -74,7 +74,7 @@ pub fn call_all(b: &mut [u8], calls: &[u64], tables: &[u16]) -> Ran
 // an accepted record marked never, the claim holds: what is left is Douglas-Peucker's of the original at the greatest tolerance applied, and the answer is
 // true of the original within it.
 pub fn crosses_after(b: &mut [u8], calls: &[u64], tables: &[u16], w: Window, e: Edges) -> Crossed
-    ensures { (crossed result ≡ after_answer b.old (calls_of tables.now calls.now) w.start.0 w.end.0 (boxOf e)) × (b.new ≡ left_after b.old (calls_of tables.now calls.now) w.start.0 w.end.0 (boxOf e)) × (IsAccepted b.old → mark_field b.old ≡ never → Claim b.old (calls_of tables.now calls.now)) }
+    ensures { (crossed result ≡ after_answer b.old (calls_of tables.now calls.now) w.start.0 w.end.0 (box_of e)) × (b.new ≡ left_after b.old (calls_of tables.now calls.now) w.start.0 w.end.0 (box_of e)) × (IsAccepted b.old → mark_field b.old ≡ never → Claim b.old (calls_of tables.now calls.now)) }
 {
     let v = crossing::cross_says(b, w, e);
     match v {

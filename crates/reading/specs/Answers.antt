@@ -3,9 +3,9 @@ use Rattle.std.proofs.Math.Option.{Option, some, none}
 use Rattle.std.specs.Prelude.{ℕ}
 use Rattle.distance.specs.Fix.{Fix, fix_of}
 use Rattle.format.specs.Kinds.{units}
-use Rattle.record.specs.Answers.{Answer, gives, turns-away}
+use Rattle.record.specs.Answers.{Answer, gives, turns_away}
 use Rattle.reading.specs.declared.AllRead.{AllRead}
-use Rattle.reading.specs.declared.AllRead.TheVariants as All
+use Rattle.reading.specs.declared.AllRead.TheVariants as ReadAll
 use Rattle.reading.specs.declared.InUnit.{InUnit}
 use Rattle.reading.specs.declared.InUnit.TheVariants as Units
 use Rattle.reading.specs.declared.Step.{Step}
@@ -18,10 +18,10 @@ found NoneLeft = none
 
 -- What the reader of all fixes answered: the record's count, or the refusal.
 abbrev pub read_count : AllRead → Answer ℕ
-read_count (All.Count n) = gives n
-read_count (All.Refused k) = turns-away k
+read_count (ReadAll.Count n) = gives n
+read_count (ReadAll.Refused k) = turns_away k
 
 -- The unit of the fixes that a reader yields, or the refusal.
-abbrev pub unit-said : InUnit → Answer ℕ
-unit-said (Units.In u) = gives (units u)
-unit-said (Units.Refused k) = turns-away k
+abbrev pub unit_said : InUnit → Answer ℕ
+unit_said (Units.In u) = gives (units u)
+unit_said (Units.Refused k) = turns_away k

@@ -2,13 +2,13 @@
 -- together without these rows. Each line is computed.
 use Rattle.std.specs.Prelude.{◌≡◌, refl, List, [], ◌∷◌, ℕ, take, pos}
 use Rattle.std.proofs.Math.Option.{some, none}
-use Rattle.distance.specs.Examples.{minus}
+use Rattle.distance.proofs.Examples.{minus}
 use Rattle.distance.specs.Fix.{last_of}
 use Rattle.format.specs.Bytes.{number_at, signed}
 use Rattle.format.specs.Format.{kind_of, fix_from, fix_at, each}
 use Rattle.format.specs.Examples.{document_bytes, millimetre_bytes, silence_bytes}
 use Rattle.record.specs.Checks.{first, sentence, some_outside, some_other_silence, some_early_after, some_early, of_ends}
-use Rattle.record.specs.Answers.{gives, turns-away}
+use Rattle.record.specs.Answers.{gives, turns_away}
 use Rattle.reading.specs.Reading.{filled, stands, yields, moves, begins, told_refusal, unit_answer, read_answer, times_read, xs_read, ys_read, silences_read}
 
 -- ---- a reader over document 01's 18 bytes yields "fix 1000 -1 2", and then none
@@ -26,7 +26,7 @@ unfolding kind_of first sentence number_at yields stands told_refusal
 refused_reader = (refl, refl, refl)
 
 -- in which unit it yields them: so many make a centimetre
-pub units_told : unit_answer document_bytes ∷ unit_answer millimetre_bytes ∷ unit_answer (take 17 document_bytes) ∷ [] ≡ gives 1 ∷ gives 10 ∷ turns-away 5 ∷ []
+pub units_told : unit_answer document_bytes ∷ unit_answer millimetre_bytes ∷ unit_answer (take 17 document_bytes) ∷ [] ≡ gives 1 ∷ gives 10 ∷ turns_away 5 ∷ []
 unfolding kind_of first sentence some_outside some_other_silence some_early_after some_early last_of of_ends fix_from fix_at each number_at signed
 units_told = refl
 
@@ -44,7 +44,7 @@ pub two_read : (read_answer lent_two ≡ gives 2)
 unfolding kind_of first sentence some_outside some_other_silence some_early_after some_early last_of of_ends fix_from fix_at each number_at signed filled
 two_read = (refl, refl, refl, refl)
 
-pub none_read : (read_answer lent_short ≡ turns-away 5)
+pub none_read : (read_answer lent_short ≡ turns_away 5)
     × (times_read lent_short (1 ∷ 2 ∷ []) ≡ 1 ∷ 2 ∷ [])
     × (xs_read lent_short (pos 1 ∷ pos 2 ∷ []) ≡ pos 1 ∷ pos 2 ∷ [])
     × (ys_read lent_short (pos 1 ∷ pos 2 ∷ []) ≡ pos 1 ∷ pos 2 ∷ [])

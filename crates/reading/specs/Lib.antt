@@ -3,5 +3,3 @@ pub mod Answers
 pub mod Reading
 -- rows of numbers, computed on those definitions:
 pub mod Examples
--- and what engineers prove of it:
-pub mod Laws

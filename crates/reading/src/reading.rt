@@ -2,7 +2,7 @@
 ghost use Rattle.std.specs.Prelude.{◌≡◌};
 ghost use Rattle.reading.specs.Reading.{stands, yields, moves, begins, told_refusal, unit_answer};
 ghost use Rattle.record.specs.Answers.{refused};
-ghost use Rattle.reading.specs.Answers.{found, unit-said};
+ghost use Rattle.reading.specs.Answers.{found, unit_said};
 
 use crate::{InUnit, Step};
 use format::{count_at, fix_at, kind_at, known_kind, record_length, unit_of};
@@ -46,7 +46,7 @@ pub fn read_on(b: &[u8], k: usize) -> usize
 
 // In which unit a reader over these bytes yields its fixes, after checks 1 to 9 and 20.
 pub fn unit_at(b: &[u8]) -> InUnit
-    ensures { unit-said result ≡ unit_answer b.now }
+    ensures { unit_said result ≡ unit_answer b.now }
 {
     let v = check(b);
     match v {
@@ -56,7 +56,7 @@ pub fn unit_at(b: &[u8]) -> InUnit
 }
 
 // The lent bytes and a position in them; `read` alone makes one. The branches of its functions are in the functions over plain bytes that they call.
-#[derive(Drop)]
+#[derive(Clone, Copy)]
 pub struct Reader<'a> {
     bytes: &'a [u8],
     at: usize,

@@ -1,2 +1,2 @@
-mod LentArray
-mod WriteList
+-- What engineers prove of the definitions.
+pub mod Laws

@@ -3,13 +3,13 @@ use Rattle.std.specs.Prelude.{◌≡◌, List, ℕ}
 use Rattle.std.proofs.Math.Option.{Option, some, none}
 use Rattle.format.specs.Format.{kind_of, fixes}
 use Rattle.record.specs.Checks.{read_refusal, IsAccepted}
-use Rattle.record.specs.Answers.{Answer, turns-away, unless}
+use Rattle.record.specs.Answers.{Answer, turns_away, unless}
 use Rattle.writing.specs.Writing.{write_answer, written, ReadsBack}
 
 -- A refusal comes before what is answered without one.
 abbrev pub refused_or : {A : Type 0} → Option ℕ → Answer A → Answer A
 refused_or none a = a
-refused_or (some k) a = turns-away k
+refused_or (some k) a = turns_away k
 
 -- The answer, and the output afterwards.
 unfoldable pub anew_answer : (b out : List ℕ) → Answer ℕ

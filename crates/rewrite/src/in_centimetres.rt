@@ -43,7 +43,7 @@ pub(crate) fn fixes_of(b: &[u8], n: usize) -> [CentimetreFix; 4096]
     list
 }
 
-// The record of a list's first n fixes, which are lent to the writer. It does nothing else, since what makes a reference to structs takes a proof by hand.
+// The record of a list's first n fixes, which are lent to the writer.
 pub(crate) fn write_list(list: [CentimetreFix; 4096], n: usize, out: &mut [u8]) -> Written
     requires { n ≤ 4096 }
     ensures { Writes trail (map in_centimetres (take n list)) out.old (wrote result) out.new }

@@ -4,7 +4,7 @@ use Rattle.std.specs.Prelude.{◌≡◌, List, [], ℕ, zero, suc, ◌≤◌, ge
 use Rattle.std.proofs.Math.Option.{Option, some, none}
 use Rattle.format.specs.Format.{each}
 use Rattle.record.specs.Checks.{Row, load_refusal}
-use Rattle.record.specs.Answers.{Answer, gives, turns-away, refused, unless}
+use Rattle.record.specs.Answers.{Answer, gives, turns_away, refused, unless}
 use Rattle.table.specs.declared.Row.{Row as RowStruct}
 use Rattle.table.specs.declared.Table.{Table}
 use Rattle.table.specs.declared.Loaded.{Loaded}
@@ -42,7 +42,7 @@ abbrev pub Loads : List Row → Loaded → Type 0
 Loads rows l = (refused l.said ≡ load_refusal rows) × (table_of l.table ≡ unless (load_refusal rows) [] rows) × ClearedAfter l.table
 
 -- The tolerance that a table gives a day, or none, or the refusal.
-abbrev pub on-day : OnDay → Answer (Option ℕ)
-on-day NoTolerance = gives none
-on-day (At e) = gives (some e.0)
-on-day (Refused k) = turns-away k
+abbrev pub on_day : OnDay → Answer (Option ℕ)
+on_day NoTolerance = gives none
+on_day (At e) = gives (some e.0)
+on_day (Refused k) = turns_away k

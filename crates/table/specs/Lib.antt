@@ -1,7 +1,3 @@
 -- What a reader must believe:
 pub mod Table
 pub mod Answers
--- rows of numbers, computed on those definitions:
-pub mod Examples
--- and what engineers prove of it:
-pub mod Laws

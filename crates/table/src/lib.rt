@@ -1,27 +1,29 @@
 // A hall's own aging table: rows of day and tolerance, loaded from lent columns and handed on by value.
+#![tactic(auto)]
+
 ghost use Rattle.std.specs.Prelude.{◌≡◌, ◌+◌, ◌*◌, ◌<◌, ◌≤◌, length, replicate};
 ghost use Rattle.std.proofs.Math.Option.{none};
 ghost use Rattle.format.specs.Format.{each};
 ghost use Rattle.record.specs.Checks.{bad_row, some_bad_row, load_refusal};
 ghost use Rattle.record.specs.Answers.{gives, refused};
 ghost use Rattle.table.specs.Table.{column_row, column_rows, table_at, days_give, tolerance_answer, built_in};
-ghost use Rattle.table.specs.Answers.{no_row, row_at, row_before, table_of, ClearedAfter, Loads, on-day};
+ghost use Rattle.table.specs.Answers.{no_row, row_at, row_before, table_of, ClearedAfter, Loads, on_day};
 
 use record::Checked;
 
 // A trail's age.
 #[repr(C)]
-#[derive(Drop)]
+#[derive(Clone, Copy)]
 pub struct Days(pub u16);
 
 // A row's tolerance, in centimetres whatever the record's unit is.
 #[repr(C)]
-#[derive(Drop)]
+#[derive(Clone, Copy)]
 pub struct RowTolerance(pub u16);
 
 // From this day on, this tolerance.
 #[repr(C)]
-#[derive(Drop)]
+#[derive(Clone, Copy)]
 pub struct Row {
     pub day: Days,
     pub tolerance: RowTolerance,
@@ -29,14 +31,14 @@ pub struct Row {
 
 // A table: its first `count` rows. Whoever makes one may put any numbers there: what is handed a table looks at the count before it looks at a row.
 #[repr(C)]
-#[derive(Drop)]
+#[derive(Clone, Copy)]
 pub struct Table {
     pub count: u16,
     pub rows: [Row; 32],
 }
 
 // The tolerance that a table gives a day, or none; or the table's refusal.
-#[derive(Drop)]
+#[derive(Clone, Copy)]
 pub enum OnDay {
     NoTolerance,
     At(RowTolerance),
@@ -44,7 +46,7 @@ pub enum OnDay {
 }
 
 // What loading answers: whether the rows are accepted, and their table, which has no rows where they aren't. (An enum holds no array, so the two stand side by side.)
-#[derive(Drop)]
+#[derive(Clone, Copy)]
 pub struct Loaded {
     pub said: Checked,
     pub table: Table,
@@ -212,7 +214,7 @@ pub fn lent(tables: &[u16], k: usize) -> Table
 // The tolerance of the last row whose day isn't above the asked one, looked for from the end.
 fn last_row(t: Table, days: Days) -> OnDay
     requires { t.count ≤ 32 }
-    ensures { on-day result ≡ gives (days_give (table_of t) days.0) }
+    ensures { on_day result ≡ gives (days_give (table_of t) days.0) }
 {
     let rows = t.rows;
     let mut n = t.count as usize;
@@ -230,7 +232,7 @@ fn last_row(t: Table, days: Days) -> OnDay
 
 // The tolerance that a table gives a day, in centimetres, after checks 22 and 23.
 pub fn tolerance_on(t: Table, days: Days) -> OnDay
-    ensures { on-day result ≡ tolerance_answer (table_of t) days.0 }
+    ensures { on_day result ≡ tolerance_answer (table_of t) days.0 }
 {
     let said = check(t);
     match said {

@@ -1,13 +1,13 @@
 -- THE LISTING IN NUMBERS. Bytes, and the text that document 01 prints for them, and document 02, each line in words above it (a `/` for its end) and in ASCII: the
 -- definitions and the code cannot be changed together without these rows. Each is computed.
 use Rattle.std.specs.Prelude.{◌≡◌, refl, cond, List, [], ◌∷◌, ℕ, ◌+◌, ◌*◌, ◌/◌, ◌%◌, ltb, length}
-use Rattle.distance.specs.Examples.{Computes, minus}
+use Rattle.distance.proofs.Examples.{Computes, minus}
 use Rattle.distance.specs.Fix.{widest, last_of}
 use Rattle.format.specs.Bytes.{number_at, signed}
 use Rattle.format.specs.Format.{never, kind_of, fix_from, fix_at, each}
 use Rattle.format.specs.Examples.{document_bytes, millimetre_bytes, silence_bytes}
 use Rattle.record.specs.Checks.{first, sentence, some_outside, some_early_after, some_early, some_other_silence, of_ends}
-use Rattle.record.specs.Examples.{read_rows, on_refused}
+use Rattle.record.proofs.Examples.{read_rows, on_refused}
 use Rattle.text.specs.Text.{silence_word, end_line, digits, decimal, integer, silence_text, fix_line, fix_lines, mark_text, first_line, record_text, refusal_line, text}
 
 abbrev pub text_rows : List (List ℕ × List ℕ)

@@ -1,4 +1,6 @@
 // The listing: a record as text.
+#![tactic(auto)]
+
 ghost use Rattle.std.specs.Prelude.{◌≡◌, ◌++◌, ◌+◌, ◌≤◌, ◌<◌, length, drop};
 ghost use Rattle.distance.specs.Fix.{fix_of, Bounded, widest};
 ghost use Rattle.text.specs.Text.{decimal, integer, silence_text, fix_line, mark_text, first_line, refusal_line, text};

@@ -3,5 +3,3 @@ pub mod Thinning
 -- what the code promises on the way to it:
 pub mod Marks
 pub mod Spans
--- and what engineers prove of it:
-pub mod Laws

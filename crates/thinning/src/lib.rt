@@ -1,4 +1,6 @@
 // The thinning layer: Douglas-Peucker over a record's fixes. The agings that rewrite a record by it are the crate above.
+#![tactic(auto)]
+
 ghost use Rattle.std.specs.Prelude.{◌≡◌, suc, ◌+◌, ◌*◌, ◌-◌, ◌<◌, ◌≤◌, leb, length};
 ghost use Rattle.distance.specs.Distance.{deviation, allowance};
 ghost use Rattle.distance.specs.Fix.{fix_of};
@@ -16,14 +18,14 @@ use distance::{Fix, Tolerance};
 use format::Kind;
 
 // The furthest inner fix of a span: its position, and its Nx² + Ny², in one word ..
-#[derive(Drop)]
+#[derive(Clone, Copy)]
 struct FurthestInWord {
     at: usize,
     value: u64,
 }
 
 // .. and in two.
-#[derive(Drop)]
+#[derive(Clone, Copy)]
 struct FurthestInWords {
     at: usize,
     value: Words,
@@ -69,7 +71,7 @@ fn furthest_in_words(b: &[u8], i: Fix, j: Fix, lo: usize, hi: usize, kind: Kind)
 }
 
 // The furthest inner fix of a span, by its position, and whether it is within e, so that all are.
-#[derive(Drop)]
+#[derive(Clone, Copy)]
 struct Verdict {
     at: usize,
     within: bool,

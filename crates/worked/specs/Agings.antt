@@ -3,7 +3,7 @@
 use Rattle.std.specs.Prelude.{◌≡◌, refl, List, ℕ, suc, ◌+◌, ◌<◌, ◌≤◌, length, drop, get_or}
 use Rattle.std.proofs.Common.{sym, ◌∙◌, ap, add-one, arith, drop_of_length-le, drop-cons}
 use Rattle.format.specs.Format.{fixes, mark_field}
-use Rattle.record.specs.Answers.{Answer, gives, turns-away}
+use Rattle.record.specs.Answers.{Answer, gives, turns_away}
 use Rattle.aging.specs.declared.Aged.{Aged}
 use Rattle.aging.specs.declared.Aged.TheVariants.{Count, Refused}
 use Rattle.aging.specs.Aging.{by_tolerance, left_by, answered}
@@ -12,7 +12,7 @@ use Rattle.questions.specs.Worked.{Left, unless_refused, aged_all}
 -- What agings answered, with what they left of the buffer.
 abbrev pub leaving : Aged → List ℕ → Answer Left
 leaving (Count c) b = gives (record { kept = fixes b; count = c; mark = mark_field b })
-leaving (Refused k) b = turns-away k
+leaving (Refused k) b = turns_away k
 
 -- After the first i agings of a list, with the buffer and the count as they are then, the rest gives what the whole list gives.
 pub record Going (b₀ es b : List ℕ) (count i : ℕ) : Type 0 where
@@ -38,8 +38,8 @@ went_on {b₀} {es} {b} {count} {i} c d g h a s e =
       to_do = ap (λ k. aged_all d c (drop k es)) (add-one i) ∙ ap (λ l. aged_all l c (drop (suc i) es)) e ∙ sym done ∙ g.to_do;
     }
 
-pub stopped : {b₀ es b : List ℕ} {count i : ℕ} (k : ℕ) → Going b₀ es b count i → i < length es → answered b (by_tolerance (get_or es i 0)) ≡ turns-away k
-    → turns-away k ≡ aged_all b₀ 0 es
+pub stopped : {b₀ es b : List ℕ} {count i : ℕ} (k : ℕ) → Going b₀ es b count i → i < length es → answered b (by_tolerance (get_or es i 0)) ≡ turns_away k
+    → turns_away k ≡ aged_all b₀ 0 es
 stopped {b₀} {es} {b} {count} {i} k g h a =
     let f : ℕ → Answer Left = λ n. aged_all (left_by b (by_tolerance (get_or es i 0))) n (drop (suc i) es) in
     sym (next b es count i h ∙ ap (λ r. unless_refused r f) a) ∙ g.to_do

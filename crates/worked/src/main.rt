@@ -1,6 +1,9 @@
 // Document 01's trails worked by hand, run through the calls that a line control makes: each is written as a record, and what is asked of it is asked of
 // the record's bytes. One line a row, to be laid beside the paper's table, whose row k document 02's item 1 has changed; below it rows in millimetres and with
-// silences. Nothing here knows what the answers should be; specs/Worked.antt of the questions layer proves them of the definitions.
+// silences. Nothing here knows what the answers should be; specs/Worked.antt of the questions layer proves them of the definitions. A write that fails ends the
+// program with its error.
+#![tactic(auto)]
+
 mod silences;
 
 ghost use Rattle.std.specs.Prelude.{◌≡◌};
@@ -11,6 +14,7 @@ use aging::Aged;
 use crossing::{Edges, Window};
 use distance::{Coordinate, Fix, Seconds, Silence, Tolerance};
 use format::Kind;
+use std::io::{Result, Write};
 
 // ---- the trails, each as its record; the longest has six fixes, which with silences take 64 bytes
 
@@ -71,11 +75,11 @@ fn box_from(left: i32, right: i32) -> Edges {
 // ---- a row
 
 // The letter and the trail, which is read from its record.
-fn begin(letter: &[u8], b: &[u8]) {
-    printing::word(letter);
-    printing::word(b" | ");
-    printing::trail(b);
-    printing::word(b", ");
+fn begin<W: Write>(out: &mut W, letter: &[u8], b: &[u8]) -> Result<()> {
+    printing::word(out, letter)?;
+    printing::word(out, b" | ")?;
+    printing::trail(out, b)?;
+    printing::word(out, b", ")
 }
 
 // Agings one after the other, each on the buffer as the one before left it: the count of the last, or the first refusal.
@@ -99,46 +103,59 @@ fn age_all(b: &mut [u8], es: &[u16]) -> Aged
     Aged::Count(count)
 }
 
-fn aged(letter: &[u8], original: [u8; 64], es: &[u16]) {
+fn aged<W: Write>(out: &mut W, letter: &[u8], original: [u8; 64], es: &[u16]) -> Result<()> {
     let mut left = original;
-    begin(letter, &original);
-    printing::tolerances(es);
-    printing::word(b" | ");
+    begin(out, letter, &original)?;
+    printing::tolerances(out, es)?;
+    printing::word(out, b" | ")?;
     let a = age_all(&mut left, es);
     match a {
-        Aged::Refused(k) => printing::refused(k),
-        Aged::Count(c) => printing::kept(&original, &left, c),
+        Aged::Refused(k) => printing::refused(out, k)?,
+        Aged::Count(c) => printing::kept(out, &original, &left, c)?,
     }
-    printing::word(b"\n");
+    printing::word(out, b"\n")
 }
 
-fn placed(letter: &[u8], b: [u8; 64], second: u32, thousandths: u16) {
-    begin(letter, &b);
-    printing::word(b"moment ");
-    printing::moment(second, thousandths);
-    printing::word(b" | ");
-    printing::placed(moment::place(&b, Seconds(second), thousandths));
-    printing::word(b"\n");
+fn placed<W: Write>(
+    out: &mut W,
+    letter: &[u8],
+    b: [u8; 64],
+    second: u32,
+    thousandths: u16,
+) -> Result<()> {
+    begin(out, letter, &b)?;
+    printing::word(out, b"moment ")?;
+    printing::moment(out, second, thousandths)?;
+    printing::word(out, b" | ")?;
+    printing::placed(out, moment::place(&b, Seconds(second), thousandths))?;
+    printing::word(out, b"\n")
 }
 
 // Whether a trail crosses a box in a window.
-fn crossed(letter: &[u8], b: [u8; 64], edges: Edges, start: u32, end: u32) {
+fn crossed<W: Write>(
+    out: &mut W,
+    letter: &[u8],
+    b: [u8; 64],
+    edges: Edges,
+    start: u32,
+    end: u32,
+) -> Result<()> {
     let window = Window {
         start: Seconds(start),
         end: Seconds(end),
     };
-    begin(letter, &b);
-    printing::edges(edges);
-    printing::word(b", ");
-    printing::window(window);
-    printing::word(b" | ");
-    printing::crossed(crossing::crosses(&b, window, edges));
-    printing::word(b"\n");
+    begin(out, letter, &b)?;
+    printing::edges(out, edges)?;
+    printing::word(out, b", ")?;
+    printing::window(out, window)?;
+    printing::word(out, b" | ")?;
+    printing::crossed(out, crossing::crosses(&b, window, edges))?;
+    printing::word(out, b"\n")
 }
 
 // Two fixes of one place, so many seconds apart: what the writer says of them, and what the reader says of their record. A record that the writer turns away
 // is made of one that it took, with the second fix stored over.
-fn apart(label: &[u8], seconds: u32) {
+fn apart<W: Write>(out: &mut W, label: &[u8], seconds: u32) -> Result<()> {
     let mut bytes = record_of(Kind::Trail, &[0, 1], &[0, 0], &[0, 0]);
     let second = Fix {
         t: Seconds(seconds),
@@ -147,61 +164,67 @@ fn apart(label: &[u8], seconds: u32) {
         silence: Silence(0),
     };
     format::put_fix(&mut bytes, Kind::Trail, 18, second);
-    begin(label, &bytes);
-    printing::word(b"writer and reader | ");
+    begin(out, label, &bytes)?;
+    printing::word(out, b"writer and reader | ")?;
     let mut output = [0u8; 64];
-    printing::written(writing::write(
-        Kind::Trail,
-        &[0, seconds],
-        &[0, 0],
-        &[0, 0],
-        b"",
-        &mut output,
-    ));
-    printing::word(b" and ");
-    printing::checked(record::check(&bytes));
-    printing::word(b"\n");
+    printing::written(
+        out,
+        writing::write(
+            Kind::Trail,
+            &[0, seconds],
+            &[0, 0],
+            &[0, 0],
+            b"",
+            &mut output,
+        ),
+    )?;
+    printing::word(out, b" and ")?;
+    printing::checked(out, record::check(&bytes))?;
+    printing::word(out, b"\n")
 }
 
 // A lone fix so far from the middle: what the writer of millimetres says of it.
-fn placed_at(label: &[u8], x: i32) {
+fn placed_at<W: Write>(out: &mut W, label: &[u8], x: i32) -> Result<()> {
     let mut output = [0u8; 64];
-    printing::word(label);
-    printing::word(b" | (0,");
-    printing::coordinate(Coordinate(x));
-    printing::word(b",0), writer | ");
-    printing::written(writing::write(Kind::MillimetreTrail, &[0], &[x], &[0], b"", &mut output));
-    printing::word(b"\n");
+    printing::word(out, label)?;
+    printing::word(out, b" | (0,")?;
+    printing::coordinate(out, Coordinate(x))?;
+    printing::word(out, b",0), writer | ")?;
+    printing::written(
+        out,
+        writing::write(Kind::MillimetreTrail, &[0], &[x], &[0], b"", &mut output),
+    )?;
+    printing::word(out, b"\n")
 }
 
 // ---- the table; the line below it, a moment whose thousandths have three different digits, and halves on both sides of 0
 
-fn thinned() {
-    aged(b"a", trail_a(), &[0]);
-    aged(b"b", trail_b(), &[0]);
-    aged(b"c", trail_c(), &[50]);
-    aged(b"d", trail_c(), &[49]);
-    aged(b"e", trail_e(), &[39]);
-    aged(b"f", trail_e(), &[40]);
-    aged(b"g", trail_g(), &[0]);
-    aged(b"h", trail_h(), &[12]);
-    aged(b"i", trail_h(), &[25, 12]);
-    aged(b"j", trail_h(), &[12, 25]);
+fn thinned<W: Write>(out: &mut W) -> Result<()> {
+    aged(out, b"a", trail_a(), &[0])?;
+    aged(out, b"b", trail_b(), &[0])?;
+    aged(out, b"c", trail_c(), &[50])?;
+    aged(out, b"d", trail_c(), &[49])?;
+    aged(out, b"e", trail_e(), &[39])?;
+    aged(out, b"f", trail_e(), &[40])?;
+    aged(out, b"g", trail_g(), &[0])?;
+    aged(out, b"h", trail_h(), &[12])?;
+    aged(out, b"i", trail_h(), &[25, 12])?;
+    aged(out, b"j", trail_h(), &[12, 25])
 }
 
-fn beside() {
-    crossed(b"l", trail_l(), box_from(33, 40), 4, 10);
-    crossed(b"l", trail_l(), box_from(33, 40), 5, 10);
-    aged(b"tolerance", trail_c(), &[32000]);
-    aged(b"tolerance", trail_c(), &[32001]);
-    apart(b"span", 65535);
-    apart(b"span", 65536);
-    apart(b"equal times", 0);
-    placed(b"k", trail_k(), 1, 234);
-    placed(b"k", trail_k(), 3, 0);
+fn beside<W: Write>(out: &mut W) -> Result<()> {
+    crossed(out, b"l", trail_l(), box_from(33, 40), 4, 10)?;
+    crossed(out, b"l", trail_l(), box_from(33, 40), 5, 10)?;
+    aged(out, b"tolerance", trail_c(), &[32000])?;
+    aged(out, b"tolerance", trail_c(), &[32001])?;
+    apart(out, b"span", 65535)?;
+    apart(out, b"span", 65536)?;
+    apart(out, b"equal times", 0)?;
+    placed(out, b"k", trail_k(), 1, 234)?;
+    placed(out, b"k", trail_k(), 3, 0)?;
     let image = record_of(Kind::Trail, &[0, 10], &[0, -5], &[0, 5]);
-    placed(b"k mirrored", image, 1, 0);
-    placed(b"k mirrored", image, 3, 0);
+    placed(out, b"k mirrored", image, 1, 0)?;
+    placed(out, b"k mirrored", image, 3, 0)
 }
 
 fn c_times_ten() -> [u8; 64] {
@@ -214,60 +237,68 @@ fn c_times_ten() -> [u8; 64] {
 }
 
 // Document 02, item 8: trails c and h times ten at ten times the tolerance, ..
-fn times_ten() {
-    aged(b"c times ten", c_times_ten(), &[500]);
-    aged(b"c times ten", c_times_ten(), &[499]);
+fn times_ten<W: Write>(out: &mut W) -> Result<()> {
+    aged(out, b"c times ten", c_times_ten(), &[500])?;
+    aged(out, b"c times ten", c_times_ten(), &[499])?;
     let h = record_of(
         Kind::MillimetreTrail,
         &[0, 10, 20, 30],
         &[0, 200, 200, 0],
         &[0, 0, 0, 0],
     );
-    aged(b"h times ten", h, &[120]);
-    aged(b"h times ten", h, &[250, 120]);
+    aged(out, b"h times ten", h, &[120])?;
+    aged(out, b"h times ten", h, &[250, 120])
 }
 
 // .. two whose sums of squares take two words, ..
-fn two_words() {
+fn two_words<W: Write>(out: &mut W) -> Result<()> {
     let corners = record_of(
         Kind::MillimetreTrail,
         &[0, 1, 65535],
         &[-160000, 160000, -160000],
         &[160000, -160000, 160000],
     );
-    aged(b"corners", corners, &[60000]);
+    aged(out, b"corners", corners, &[60000])?;
     let words = record_of(
         Kind::MillimetreTrail,
         &[0, 1, 2, 65535],
         &[0, 159983, 160000, 0],
         &[0, 0, 0, 0],
     );
-    aged(b"words apart", words, &[60000]);
+    aged(out, b"words apart", words, &[60000])
 }
 
 // .. and the limits of tolerances and places.
-fn limits_in_millimetres() {
-    aged(b"tolerance", c_times_ten(), &[60000]);
-    aged(b"tolerance", c_times_ten(), &[60001]);
-    placed_at(b"place", 160000);
-    placed_at(b"place", 160001);
+fn limits_in_millimetres<W: Write>(out: &mut W) -> Result<()> {
+    aged(out, b"tolerance", c_times_ten(), &[60000])?;
+    aged(out, b"tolerance", c_times_ten(), &[60001])?;
+    placed_at(out, b"place", 160000)?;
+    placed_at(out, b"place", 160001)
 }
 
-fn main() {
-    printing::word(b"Document 01, trails worked by hand: fixes (t,x,y), positions from 0.\n");
+fn main(rt: HostRuntime) -> Result<()> {
+    let mut out = rt.stdout();
     printing::word(
+        &mut out,
+        b"Document 01, trails worked by hand: fixes (t,x,y), positions from 0.\n",
+    )?;
+    printing::word(
+        &mut out,
         b"The count is the last aging's. A told time is in lowest terms, then as it was told.\n",
-    );
-    printing::word(b"Places are rounded as document 02's item 1 has it, halves away from 0.\n\n");
-    thinned();
-    placed(b"k", trail_k(), 1, 0);
-    crossed(b"l", trail_l(), box_from(33, 40), 0, 10);
-    printing::word(b"\n");
-    beside();
-    printing::word(b"\nDocument 02, item 8, in millimetres:\n");
-    times_ten();
-    two_words();
-    limits_in_millimetres();
-    printing::word(b"\nDocument 02, item 5, with silences:\n");
-    silences::rows();
+    )?;
+    printing::word(
+        &mut out,
+        b"Places are rounded as document 02's item 1 has it, halves away from 0.\n\n",
+    )?;
+    thinned(&mut out)?;
+    placed(&mut out, b"k", trail_k(), 1, 0)?;
+    crossed(&mut out, b"l", trail_l(), box_from(33, 40), 0, 10)?;
+    printing::word(&mut out, b"\n")?;
+    beside(&mut out)?;
+    printing::word(&mut out, b"\nDocument 02, item 8, in millimetres:\n")?;
+    times_ten(&mut out)?;
+    two_words(&mut out)?;
+    limits_in_millimetres(&mut out)?;
+    printing::word(&mut out, b"\nDocument 02, item 5, with silences:\n")?;
+    silences::rows(&mut out)
 }

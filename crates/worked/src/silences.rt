@@ -2,6 +2,7 @@
 use crate::{aged, begin, box_from, crossed, placed};
 use distance::{Coordinate, Fix, Seconds, Silence};
 use format::Kind;
+use std::io::{Result, Write};
 
 // A trail as its record, of kind 3.
 fn record_of(ts: &[u32], xs: &[i32], ys: &[i32], silences: &[u8]) -> [u8; 64] {
@@ -35,13 +36,13 @@ fn record_saying(seconds: u32, first: u8, last: u8) -> [u8; 64] {
 }
 
 // What the writer says of such fixes, and the reader of their record.
-fn said(seconds: u32, first: u8, last: u8) {
+fn said<W: Write>(out: &mut W, seconds: u32, first: u8, last: u8) -> Result<()> {
     let bytes = record_saying(seconds, first, last);
-    begin(b"silences", &bytes);
-    printing::number(first as u64);
-    printing::word(b" and ");
-    printing::number(last as u64);
-    printing::word(b", writer and reader | ");
+    begin(out, b"silences", &bytes)?;
+    printing::number(out, first as u64)?;
+    printing::word(out, b" and ")?;
+    printing::number(out, last as u64)?;
+    printing::word(out, b", writer and reader | ")?;
     let mut output = [0u8; 64];
     let w = writing::write(
         Kind::SilenceTrail,
@@ -51,10 +52,10 @@ fn said(seconds: u32, first: u8, last: u8) {
         &[first, last],
         &mut output,
     );
-    printing::written(w);
-    printing::word(b" and ");
-    printing::checked(record::check(&bytes));
-    printing::word(b"\n");
+    printing::written(out, w)?;
+    printing::word(out, b" and ")?;
+    printing::checked(out, record::check(&bytes))?;
+    printing::word(out, b"\n")
 }
 
 // Two straight lines with a silence between them.
@@ -73,24 +74,24 @@ fn trail_h(silences: &[u8]) -> [u8; 64] {
 }
 
 // The moments and the crossings of a silent leg.
-fn asked() {
-    placed(b"k", silent_k(), 1, 0);
-    placed(b"k", silent_k(), 0, 0);
-    placed(b"k", silent_k(), 10, 0);
-    crossed(b"l", silent_l(), box_from(33, 40), 0, 10);
-    crossed(b"l", silent_l(), box_from(0, 40), 0, 10);
-    crossed(b"l", silent_l(), box_from(33, 100), 0, 10);
-    crossed(b"l", silent_l(), box_from(0, 100), 1, 9);
+fn asked<W: Write>(out: &mut W) -> Result<()> {
+    placed(out, b"k", silent_k(), 1, 0)?;
+    placed(out, b"k", silent_k(), 0, 0)?;
+    placed(out, b"k", silent_k(), 10, 0)?;
+    crossed(out, b"l", silent_l(), box_from(33, 40), 0, 10)?;
+    crossed(out, b"l", silent_l(), box_from(0, 40), 0, 10)?;
+    crossed(out, b"l", silent_l(), box_from(33, 100), 0, 10)?;
+    crossed(out, b"l", silent_l(), box_from(0, 100), 1, 9)
 }
 
-pub(crate) fn rows() {
-    aged(b"parted", parted(), &[0]);
-    aged(b"parted", parted(), &[32000]);
-    aged(b"h parted", trail_h(&[0, 1, 0, 0]), &[25, 12]);
-    aged(b"h", trail_h(&[0, 0, 0, 0]), &[25, 12]);
-    asked();
-    said(1, 2, 0);
-    said(1, 0, 1);
-    said(65536, 1, 1);
-    said(65535, 1, 0);
+pub(crate) fn rows<W: Write>(out: &mut W) -> Result<()> {
+    aged(out, b"parted", parted(), &[0])?;
+    aged(out, b"parted", parted(), &[32000])?;
+    aged(out, b"h parted", trail_h(&[0, 1, 0, 0]), &[25, 12])?;
+    aged(out, b"h", trail_h(&[0, 0, 0, 0]), &[25, 12])?;
+    asked(out)?;
+    said(out, 1, 2, 0)?;
+    said(out, 1, 0, 1)?;
+    said(out, 65536, 1, 1)?;
+    said(out, 65535, 1, 0)
 }

@@ -1,1 +1,2 @@
 pub mod LentList
+pub mod Laws

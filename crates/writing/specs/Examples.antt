@@ -2,15 +2,17 @@
 -- changed together without these rows. Each line is computed.
 use Rattle.std.specs.Prelude.{◌≡◌, refl, List, [], ◌∷◌, ◌++◌, ℕ, take, ℤ, pos}
 use Rattle.std.proofs.Math.Option.{Option, some, none}
-use Rattle.distance.specs.Examples.{Computes, minus}
+use Rattle.distance.proofs.Examples.{Computes, minus}
 use Rattle.distance.specs.Fix.{Fix, last_of}
 use Rattle.format.specs.Bytes.{bytes_of, unsigned}
 use Rattle.format.specs.Kinds.{Kind, trail, millimetre_trail, silence_trail}
 use Rattle.format.specs.Format.{each, fix_to, fix_bytes, all_bytes, header_bytes, record_bytes}
 use Rattle.format.specs.Examples.{document_bytes, document_fixes, millimetre_bytes, millimetre_fixes, silence_bytes, silence_fixes}
 use Rattle.record.specs.Checks.{first, sentence, some_outside, some_early_after, some_early, some_other_silence, of_ends, refusal, writing}
-use Rattle.record.specs.Answers.{gives, turns-away}
-use Rattle.writing.specs.Writing.{asked_to_write, write_answer, written, columns}
+use Rattle.record.specs.Answers.{gives, turns_away}
+use Rattle.writing.specs.Writing.{asked_to_write, write_answer, written, in_centimetres, in_millimetres, with_silences, columns}
+use Rattle.writing.specs.Answers.{wrote}
+use Rattle.writing.specs.declared.Written.TheVariants.{Length, Refused}
 
 abbrev pub a_fix : (t : ℕ) (x y : ℤ) → Fix
 a_fix t x y = record { t = t; x = x; y = y; silence = 0 }
@@ -109,7 +111,7 @@ seventeen = take 17 twenty
 
 pub one_written : (write_answer trail document_fixes twenty ≡ gives 18)
     × (written trail document_fixes twenty ≡ document_bytes ++ 19 ∷ 20 ∷ [])
-    × (write_answer trail document_fixes seventeen ≡ turns-away 15)
+    × (write_answer trail document_fixes seventeen ≡ turns_away 15)
     × (written trail document_fixes seventeen ≡ seventeen)
 unfolding first sentence some_outside some_early_after some_early some_other_silence last_of of_ends record_bytes header_bytes all_bytes fix_bytes fix_to bytes_of unsigned
 one_written = (refl, refl, refl, refl)
@@ -123,7 +125,7 @@ thirty_three = take 33 thirty_five
 
 pub two_written : (write_answer millimetre_trail millimetre_fixes thirty_five ≡ gives 34)
     × (written millimetre_trail millimetre_fixes thirty_five ≡ millimetre_bytes ++ 15 ∷ [])
-    × (write_answer millimetre_trail millimetre_fixes thirty_three ≡ turns-away 15)
+    × (write_answer millimetre_trail millimetre_fixes thirty_three ≡ turns_away 15)
     × (written millimetre_trail millimetre_fixes thirty_three ≡ thirty_three)
 unfolding first sentence some_outside some_early_after some_early some_other_silence last_of of_ends record_bytes header_bytes all_bytes fix_bytes fix_to bytes_of unsigned
 two_written = (refl, refl, refl, refl)
@@ -134,7 +136,7 @@ thirty = take 30 thirty_five
 
 pub silence_written : (write_answer silence_trail silence_fixes thirty ≡ gives 28)
     × (written silence_trail silence_fixes thirty ≡ silence_bytes ++ 9 ∷ 10 ∷ [])
-    × (write_answer silence_trail silence_fixes (take 27 thirty) ≡ turns-away 15)
+    × (write_answer silence_trail silence_fixes (take 27 thirty) ≡ turns_away 15)
     × (written silence_trail silence_fixes (take 27 thirty) ≡ take 27 thirty)
 unfolding first sentence some_outside some_early_after some_early some_other_silence last_of of_ends record_bytes header_bytes all_bytes fix_bytes fix_to bytes_of unsigned
 silence_written = (refl, refl, refl, refl)
@@ -148,3 +150,17 @@ pub columns_computed : (columns_of silence_trail ≡ record { t = 5; x = pos 1; 
     × (columns_of trail ≡ a_fix 5 (pos 1) (pos 4) ∷ a_fix 6 (pos 2) (pos 5) ∷ a_fix 7 (pos 3) (pos 6) ∷ [])
 unfolding each
 columns_computed = (refl, refl)
+
+-- ---- WHAT THE STRUCTS AND THE ENUM OF THE CODE SAY: (5, −1, 2) in each struct, and an answer
+pub structs_computed :
+    (in_centimetres (record { t = record { 0 = 5 }; x = record { 0 = minus 1 }; y = record { 0 = pos 2 } })
+    ≡ record { t = 5; x = minus 1; y = pos 2; silence = 0 })
+    × (in_millimetres (record { t = record { 0 = 5 }; x = record { 0 = minus 1 }; y = record { 0 = pos 2 } })
+    ≡ record { t = 5; x = minus 1; y = pos 2; silence = 0 })
+    × (with_silences
+    (record { t = record { 0 = 5 }; x = record { 0 = minus 1 }; y = record { 0 = pos 2 }; silence = record { 0 = 1 } })
+    ≡ record { t = 5; x = minus 1; y = pos 2; silence = 1 })
+structs_computed = (refl, refl, refl)
+
+pub answers_computed : Computes wrote ((Length 18, gives 18) ∷ (Refused 15, turns_away 15) ∷ [])
+answers_computed = refl

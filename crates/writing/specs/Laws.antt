@@ -1,6 +1,5 @@
 -- What is proved of the definitions, each law once.
 pub mod Writing
-pub mod ReadsBack
 pub mod Passing
 pub mod Centimetres
 pub mod Millimetres

@@ -1,5 +1,7 @@
 // The writers of the record layer: over a lent list of fixes, whose struct says their unit and whether they have silences, and over columns of numbers. All make
 // the same checks, put down the same bytes and promise that reading gives the list again.
+#![tactic(auto)]
+
 mod columns;
 mod in_centimetres;
 mod in_millimetres;
@@ -28,27 +30,27 @@ pub use with_silences::write_silences;
 
 // A coordinate in centimetres, and a fix in them; in millimetres; and a fix in centimetres that says whether silence follows. A length in one unit can't stand in
 // the other's place.
-#[derive(Drop)]
+#[derive(Clone, Copy)]
 pub struct Centimetres(pub i16);
 
-#[derive(Drop)]
+#[derive(Clone, Copy)]
 pub struct CentimetreFix {
     pub t: Seconds,
     pub x: Centimetres,
     pub y: Centimetres,
 }
 
-#[derive(Drop)]
+#[derive(Clone, Copy)]
 pub struct Millimetres(pub i32);
 
-#[derive(Drop)]
+#[derive(Clone, Copy)]
 pub struct MillimetreFix {
     pub t: Seconds,
     pub x: Millimetres,
     pub y: Millimetres,
 }
 
-#[derive(Drop)]
+#[derive(Clone, Copy)]
 pub struct SilenceFix {
     pub t: Seconds,
     pub x: Centimetres,
@@ -57,7 +59,7 @@ pub struct SilenceFix {
 }
 
 // What the writer answers.
-#[derive(Drop)]
+#[derive(Clone, Copy)]
 pub enum Written {
     Length(u32),
     Refused(u8),

@@ -17,7 +17,7 @@ use record::{Checked, Scan, scan_first, scan_next, scan_says};
 
 // What is to be done with the next fix of a pass: it is the first to be checked, a later one to be checked, one to be put at a place of the output, or
 // nothing is done with it since the list was refused.
-#[derive(Drop)]
+#[derive(Clone, Copy)]
 pub enum Stage {
     Begins,
     Checks(Scan),

@@ -1,0 +1,11 @@
+use mathlib.Core.Path.{refl, ◌∙◌}
+use Rattle.anchors.specs.declared.Reading.TheVariants.{Step}
+use Rattle.anchors.proofs.Laws.Claim.{nothing_lost}
+use Rattle.export.specs.Interface.{state_of}
+use Rattle.export.proofs.Laws.{anchored_read}
+use Rattle.export.proofs.anchors_of.trails_anchor_step.Goals as goal
+
+pub returns : goal.returns
+returns c =
+    let a = c.args in
+    (c.anchored_of.ensures ∙ anchored_read a.s _ (Step a.x a.y) c.read-a.result c.state_of.ensures c.read-a.ensures, nothing_lost (state_of a.s) (Step a.x a.y) _ refl)

@@ -1,0 +1,8 @@
+use mathlib.Core.Path.{◌∙◌, ap}
+use Rattle.export.specs.Interface.{value_numbers}
+use Rattle.export.proofs.trails_write_silences.Goals as goal
+
+pub returns : goal.returns
+returns c =
+    let done = c.write-w.ensures in
+    (c.length_of.ensures ∙ ap value_numbers done.0, done.1)

@@ -1,0 +1,2 @@
+-- What a loop of reads leaves.
+pub mod Filled

@@ -1,4 +1,0 @@
--- What is proved of the definitions, each law once.
-pub mod Reading
-pub mod Columns
-pub mod Accepted

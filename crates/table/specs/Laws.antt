@@ -1,5 +1,0 @@
--- What is proved of the definitions, each law once.
-pub mod Checking
-pub mod Rows
-pub mod Days
-pub mod Lent

@@ -1,0 +1,2 @@
+-- What is proved of the definitions, each law once.
+pub mod Text

@@ -1,0 +1,19 @@
+-- What is proved of the definitions, each law once.
+pub mod Again
+pub mod ByStretch
+pub mod Count
+pub mod Furthest
+pub mod Keeps
+pub mod Kept
+pub mod KeptBy
+pub mod Mapped
+pub mod MarkedTo
+pub mod Marks
+pub mod Mirror
+pub mod Near
+pub mod Search
+pub mod Silences
+pub mod Spans
+pub mod Stretches
+pub mod Tenfold
+pub mod Trail

@@ -1,0 +1,15 @@
+use Prim.Native.Nat.{◌-◌, ◌≤◌, ◌<◌}
+use Rattle.distance.specs.Fix.{fix_of}
+use Rattle.distance.specs.Distance.{deviation}
+use Rattle.distance.specs.Words.{value as value_of_lem}
+use Rattle.format.specs.Kinds.{layout}
+use Rattle.format.specs.Format.{fix_at}
+use Rattle.thinning.proofs.Laws.Search.{Searched}
+use Rattle.thinning.proofs.furthest_in_words.Given as goal
+
+abbrev pub invariant-loop-k : goal.invariant-loop-k
+invariant-loop-k l =
+    (l.k ≤ l.hi) × (l.lo < l.k) × (l.value.low < 4294967296) × Searched (λ x. deviation (fix_of l.i) (fix_at (layout l.kind) l.b x) (fix_of l.j)) l.lo l.k l.at (value_of_lem l.value)
+
+abbrev pub decreases-loop-k : goal.decreases-loop-k
+decreases-loop-k l = l.hi - l.k

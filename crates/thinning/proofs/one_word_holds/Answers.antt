@@ -1,0 +1,39 @@
+use mathlib.Core.Path.{◌≡◌, refl, ap}
+use Prim.Native.Nat.{suc, ◌-◌, ◌≤◌}
+use native.Mathlib.Nat.{mul-le-mul, le_refl}
+use native.Mathlib.Omega.{arith}
+use mir.Syntax.{w16}
+use mir.Val.{Fits}
+use borrow.Author.Rules.{rules}
+use Rattle.distance.specs.Fix.{Fix, fix_of}
+use Rattle.distance.specs.Span.{Chord}
+use Rattle.distance.specs.Integers.Differences.{sub_of_pos}
+use Rattle.format.specs.Kinds.{layout}
+use Rattle.format.proofs.Laws.Kinds.{is_kind}
+use Rattle.thinning.proofs.Laws.Spans.{holds_fewer, chord_of}
+use Rattle.thinning.proofs.one_word_holds.Goals as goal
+use Rattle.thinning.proofs.one_word_holds.Goals.{After-fix_at-j}
+
+pub fix_at-i-requires : goal.fix_at-i-requires
+fix_at-i-requires c = holds_fewer (layout c.args.kind) (suc c.args.lo) (suc c.args.hi) (omega arith) c.requires.1
+
+-- the two fixes that were read are the span's ends
+chord : (c : After-fix_at-j) → Chord (fix_of c.fix_at-i.result) (fix_of c.fix_at-j.result)
+chord c = let p = c.requires in rw (c.fix_at-i.ensures, c.fix_at-j.ensures) (chord_of _ _ p.2 p.0)
+
+pub since-d-requires : goal.since-d-requires
+since-d-requires c = let h = chord (goal.at-since-d-requires c).After-fix_at-j in (h.order, h.short)
+
+pub overflow_mul-result-2 : goal.overflow_mul-result-2
+overflow_mul-result-2 c =
+    let limit : c.limit_of.result ≤ 160000 = omega (arith, c.limit_of.ensures, (is_kind c.args.kind).within_widest) in
+    let fits : Fits w16 c.since-d.result.0 = search rules in
+    let d : c.since-d.result.0 ≤ 65535 = omega (arith, fits.fits) in
+    record { fits = omega (arith, mul-le-mul (mul-le-mul (le_refl 2) limit) d) }
+
+pub returns : goal.returns
+returns c =
+    let i = c.fix_at-i in
+    let j = c.fix_at-j in
+    let d : c.since-d.result.0 ≡ j.result.t.0 - i.result.t.0 = sub_of_pos (chord (goal.at-returns c).After-fix_at-j).order c.since-d.ensures in
+    rw (c.limit_of.ensures, d, ← ap (λ (f : Fix). f.t) i.ensures, ← ap (λ (f : Fix). f.t) j.ensures) refl

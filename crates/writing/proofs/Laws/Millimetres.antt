@@ -1,0 +1,1 @@
+-- The list in millimetres: what it has where it has no fix, which no contract reads.

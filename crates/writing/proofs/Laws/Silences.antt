@@ -1,0 +1,1 @@
+-- The list with silences: what it has where it has no fix, which no contract reads.
