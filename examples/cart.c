@@ -8,7 +8,7 @@
  *
  * In the source tree:
  *
- *   rt staticlib export
+ *   ./build
  *   cc -I include examples/cart.c library/trails.c target/staticlib/libexport.a -o cart && ./cart
  */
 #include <stdio.h>

@@ -3,9 +3,9 @@
  * Link with libtrails, which './install PREFIX' puts below a folder with this page:
  *   cc cart.c $(pkg-config --cflags --libs trails)
  * or, in the source tree, with library/trails.c and the archive of the proved functions,
- * target/staticlib/libexport.a, which 'rt staticlib export' makes. The functions allocate
- * nothing, keep nothing between calls, and may be called from several threads at once as
- * long as no buffer that one of them writes is lent to another at the same time.
+ * target/staticlib/libexport.a, which './build' makes. The functions allocate nothing,
+ * keep nothing between calls, and may be called from several threads at once as long as
+ * no buffer that one of them writes is lent to another at the same time.
  *
  * A buffer is a pointer and the number of its elements. The pointer isn't null
  * and is aligned for its elements, even where the number is 0; all the elements

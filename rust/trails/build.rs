@@ -1,5 +1,5 @@
 //! Tells cargo where the archive of the proved functions is. An installed package has a link to the installed one beside
-//! this file; in the source tree `rt staticlib export` makes it.
+//! this file; in the source tree `./build` makes it.
 
 use std::path::Path;
 
@@ -7,8 +7,8 @@ use std::path::Path;
 const ARCHIVES: [(&str, &str); 2] = [(".", "trails"), ("../../target/staticlib", "export")];
 
 const MISSING: &str = "\
-The archive of the proved functions isn't there. In the source tree, run 'rt staticlib export', or './demo', which proves
-everything first. In an installed package, put libtrails.a there again by './install PREFIX'.";
+The archive of the proved functions isn't there. In the source tree, run './build', which proves everything first. In an
+installed package, put libtrails.a there again by './install PREFIX'.";
 
 fn main() {
     let here = std::env::var("CARGO_MANIFEST_DIR").expect("cargo sets it");

@@ -4,12 +4,12 @@ use std::io::{ErrorKind, Write};
 use std::path::{Path, PathBuf};
 use std::process::{ChildStdin, Command, Stdio};
 
-/// The folder that has the crates, the header and what `rt` builds.
+/// The folder that has the crates, the header and what `./build` puts there.
 pub fn project() -> PathBuf {
     Path::new(env!("CARGO_MANIFEST_DIR")).join("../..")
 }
 
-/// A program that `rt check` builds, or what a variable like TRAILS_LISTING names in its place.
+/// A program that `./build` puts there, or what a variable like TRAILS_LISTING names in its place.
 pub fn proved(name: &str) -> PathBuf {
     let variable = format!("TRAILS_{}", name.to_uppercase());
     let built = project().join("target/bin").join(name);

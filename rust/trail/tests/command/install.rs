@@ -219,7 +219,7 @@ fn a_missing_archive_says_what_to_run() {
     ran.fails(
         1,
         "install: target/staticlib/libexport.a, the archive of the proved functions, isn't there: run './demo', which \
-         proves and builds everything, or 'rt staticlib export'",
+         proves and builds everything, or './build'",
     );
     assert_eq!(folder.names(), ["install"]);
 }
@@ -457,8 +457,8 @@ fn a_rust_package_without_its_archive_says_what_to_run() {
     assert_eq!(ran.status, Some(101), "{}", ran.text());
     let lines: Vec<&str> = ran.err.lines().map(str::trim).collect();
     let said = lines.join(" ");
-    let what = "The archive of the proved functions isn't there. In the source tree, run 'rt staticlib export', or \
-                './demo', which proves everything first.";
+    let what = "The archive of the proved functions isn't there. In the source tree, run './build', which proves \
+                everything first.";
     assert!(said.contains(what), "{}", ran.err);
 }
 
