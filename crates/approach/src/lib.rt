@@ -24,25 +24,10 @@ pub struct Part {
     pub den: u64,
 }
 
-// Where on one leg the cart is closest to the point, if that is near.
-#[derive(Clone, Copy)]
-pub enum Nearing {
-    At(Part),
-    Never,
-}
-
 // The first leg that comes near, counted from 0, and the time num/den seconds after the first fix at which it is closest.
 #[derive(Clone, Copy)]
 pub struct Approach {
     pub leg: u32,
     pub num: u64,
     pub den: u64,
-}
-
-// What the question answers: yes with the leg and the time, or no, or the refusal.
-#[derive(Clone, Copy)]
-pub enum Approached {
-    Told(Approach),
-    Denied,
-    Refused(u8),
 }

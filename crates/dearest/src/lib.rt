@@ -10,11 +10,9 @@ ghost use Rattle.writing.specs.Answers.{wrote};
 ghost use Rattle.aging.specs.Answers.{counted};
 ghost use Rattle.dearest.specs.Dearest.{dearest_y, dearest_fix, dearest, dearest_answer, dearest_marked, dearest_written, dearest_count};
 
-use aging::Aged;
 use distance::{Coordinate, Fix, Seconds, Silence, Tolerance};
 use format::Kind;
-use record::Checked;
-use writing::Written;
+use record::Refusal;
 
 // How far from 0 the fix at position i of n is: to one side and to the other in turn.
 fn dearest_y(n: usize, i: usize) -> Coordinate
@@ -25,7 +23,7 @@ fn dearest_y(n: usize, i: usize) -> Coordinate
     if i % 2 == 0 {
         Coordinate(far)
     } else {
-        Coordinate(0 - far)
+        Coordinate(-far)
     }
 }
 
@@ -34,49 +32,40 @@ fn dearest_fix(n: usize, i: usize) -> Fix
     requires { (i < n) × (n ≤ 4096) }
     ensures { fix_of result ≡ dearest_fix n i }
 {
-    let y = dearest_y(n, i);
     Fix {
         t: Seconds(i as u32),
         x: Coordinate(0),
-        y,
+        y: dearest_y(n, i),
         silence: Silence(0),
     }
 }
 
-// The n fixes, after a record's head.
+// The n fixes, after a record's head; n is how many are asked for, and no length of the output. (The writer's own pass goes over fixes that are lent; these are made.)
 fn put_dearest(n: usize, out: &mut [u8])
     requires { (n ≤ 4096) × (record_length trail n ≤ length out.old) }
     ensures { out.new ≡ sets out.old 10 (all_bytes trail (dearest n)) }
 {
-    let mut i = 0;
-    while i < n {
+    for i in 0..n {
         let at = format::record_length(Kind::Trail, i as u32);
         format::put_fix(out, Kind::Trail, at as usize, dearest_fix(n, i));
-        i += 1;
     }
 }
 
 // Writes the record of the dearest trail of n fixes. None of its fixes is turned away by 7, 8, 9 or 20, so the writer's checks are 3 and 15.
-pub fn write_dearest(n: usize, out: &mut [u8]) -> Written
-    ensures { (wrote result ≡ dearest_answer n out.old) × (out.new ≡ dearest_written n out.old) }
+pub fn write_dearest(n: usize, out: &mut [u8]) -> Result<u32, Refusal>
+    ensures answer { wrote result ≡ dearest_answer n out.old }
+    ensures bytes { out.new ≡ dearest_written n out.old }
 {
-    let w = writing::begin_record(Kind::Trail, n, Checked::Accepted, out);
-    match w {
-        Written::Refused(k) => Written::Refused(k),
-        Written::Length(bytes) => {
-            put_dearest(n, out);
-            Written::Length(bytes)
-        },
-    }
+    let length = writing::begin_record(Kind::Trail, n, Ok(()), out)?;
+    put_dearest(n, out);
+    Ok(length)
 }
 
 // Writes it and ages it at tolerance 1: the most that an aging of n fixes measures. What the two calls answer is known before they are made.
-pub fn age_dearest(n: usize, out: &mut [u8]) -> Aged
-    ensures { (counted result ≡ dearest_count n out.old) × (out.new ≡ dearest_marked 1 n out.old) }
+pub fn age_dearest(n: usize, out: &mut [u8]) -> Result<u32, Refusal>
+    ensures answer { counted result ≡ dearest_count n out.old }
+    ensures bytes { out.new ≡ dearest_marked 1 n out.old }
 {
-    let w = write_dearest(n, out);
-    match w {
-        Written::Refused(k) => Aged::Refused(k),
-        Written::Length(_) => aging::age(out, Tolerance(1)),
-    }
+    write_dearest(n, out)?;
+    aging::age(out, Tolerance(1))
 }

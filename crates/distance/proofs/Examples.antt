@@ -1,6 +1,7 @@
 -- ROUNDING, MIRRORING, MOVING, SCALING AND MEASURING IN NUMBERS: what document 02's items 1, 4 and 8 say of fractions, coordinates, times and distances. The
 -- definitions and the code cannot be changed together without these rows. Each line is computed.
-use Rattle.std.specs.Prelude.{◌≡◌, refl, Bool, true, false, ℕ, ◌+◌, ◌*◌, ltb, leb, ℤ, pos, neg_ℤ}
+use Rattle.std.specs.Prelude.{◌≡◌, refl, T, Bool, true, false, ℕ, ◌+◌, ◌*◌, ltb, leb, ℤ, pos, neg_ℤ}
+use Rattle.std.proofs.Common.{ltb→lt}
 use mathlib.Core.List.{List, [], ◌∷◌, map, head-eq_of_cons-eq, tail-eq_of_cons-eq}
 use Rattle.distance.specs.declared.words.Words.{Words}
 use Rattle.distance.specs.Fix.{Fix, widest}
@@ -114,16 +115,16 @@ pub one_word_computed : (ltb (one_word * one_word) 9223372036854775808 ∷ ltb (
     × (leb (2 * 16000 * 65535) one_word ∷ leb (2 * widest * 9490) one_word ∷ leb (2 * widest * 9491) one_word ∷ [] ≡ true ∷ true ∷ false ∷ [])
 one_word_computed = (refl, refl)
 
-abbrev pub words : ℕ → ℕ → Words
-words high low = record { high = high; low = low }
+abbrev pub words : (high low : ℕ) → T (ltb low 4294967296) → Words
+words high low normal = record { high = high; low = low; normal = ltb→lt low 4294967296 normal }
 
 -- Two words, and the number that they are.
 abbrev pub words_rows : List (Words × ℕ)
 words_rows =
-    (words 0 4294967295, 4294967295)
-    ∷ (words 1 0, 4294967296)
+    (words 0 4294967295 tt, 4294967295)
+    ∷ (words 1 0 tt, 4294967296)
     -- the greatest sum of all, above
-    ∷ (words 204793750047 2936537088, 879582458880000000000)
+    ∷ (words 204793750047 2936537088 tt, 879582458880000000000)
     ∷ []
 
 pub words_computed : Computes value words_rows
@@ -133,11 +134,11 @@ words_computed = refl
 -- and equals.
 abbrev pub below_rows : List ((Words × Words) × Bool)
 below_rows =
-    ((words 2 7, words 3 7), true)
-    ∷ ((words 3 7, words 3 8), true)
-    ∷ ((words 2 8, words 3 7), true)
-    ∷ ((words 3 7, words 2 8), false)
-    ∷ ((words 3 7, words 3 7), false)
+    ((words 2 7 tt, words 3 7 tt), true)
+    ∷ ((words 3 7 tt, words 3 8 tt), true)
+    ∷ ((words 2 8 tt, words 3 7 tt), true)
+    ∷ ((words 3 7 tt, words 2 8 tt), false)
+    ∷ ((words 3 7 tt, words 3 7 tt), false)
     ∷ []
 
 pub below_computed : Computes (λ (r : Words × Words). ltb (value r.0) (value r.1)) below_rows

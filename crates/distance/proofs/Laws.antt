@@ -13,3 +13,4 @@ pub mod Ranges
 pub mod Rounding
 pub mod Silence
 pub mod Tenfold
+pub mod Order

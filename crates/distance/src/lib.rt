@@ -1,47 +1,46 @@
 // The distance layer: units, the fix, how far an inner fix of a span is from the chord of its two ends, and a place rounded.
 #![tactic(auto)]
 
+mod shown;
+pub mod squares;
 pub mod words;
 
-ghost use Rattle.std.specs.Prelude.{◌≡◌, ◌+◌, ◌≤◌, pos, nat_abs, ◌-ℤ◌};
+ghost use Rattle.std.specs.Prelude.{◌≡◌, ◌+◌, ◌≤◌, pos, ◌-ℤ◌};
 ghost use Rattle.distance.specs.Fix.{fix_of};
-ghost use Rattle.distance.specs.Distance.{N, Nx, Ny, deviation, allowance};
+ghost use Rattle.distance.specs.Distance.{N, Nx, Ny, allowance};
 ghost use Rattle.distance.specs.Rounding.{half_up, rounded};
 ghost use Rattle.distance.specs.Silence.{silent};
-ghost use Rattle.distance.specs.Span.{Chord, Between, Off, one_word, greatest_N, Roundable};
-ghost use Rattle.distance.specs.Words.{WordsOf};
-
-use crate::words::{Words, sum_of_squares};
+ghost use Rattle.distance.specs.Span.{Chord, Between, Roundable};
 
 // A time on the fixes' own clock. Times and lengths have types of their own, so that neither can stand for the other.
-#[derive(Clone, Copy)]
+#[derive(Clone, Copy, PartialEq, Eq, PartialOrd, Ord)]
 pub struct Seconds(pub u32);
 
 // Whole seconds from one time of a record to a later one, which its checks keep to 65,535: how long a span or a leg takes, and, counted from the first fix,
 // when a leg begins and when a window opens and closes. It is neither a time on the clock nor a length.
-#[derive(Clone, Copy)]
+#[derive(Clone, Copy, PartialEq, Eq, PartialOrd, Ord)]
 pub struct Duration(pub u16);
 
 // A coordinate of a place, in the unit of the record that it is of: the record's kind says which. The work below is the same in every unit.
-#[derive(Clone, Copy)]
+#[derive(Clone, Copy, PartialEq, Eq, PartialOrd, Ord)]
 pub struct Coordinate(pub i32);
 
 // A length that isn't negative, in the record's unit: how far a dropped fix may be from its chord.
-#[derive(Clone, Copy)]
+#[derive(Clone, Copy, PartialEq, Eq, PartialOrd, Ord)]
 pub struct Tolerance(pub u16);
 
 // A point of the plane, in whole numbers of a unit: one that is asked about, or a place rounded.
-#[derive(Clone, Copy)]
+#[derive(Clone, Copy, PartialEq, Eq)]
 pub struct Point {
     pub x: Coordinate,
     pub y: Coordinate,
 }
 
 // What follows a fix: 1 is a silence, and 0 none. A record's byte may say anything; check 20 turns the rest away.
-#[derive(Clone, Copy)]
+#[derive(Clone, Copy, PartialEq, Eq)]
 pub struct Silence(pub u8);
 
-#[derive(Clone, Copy)]
+#[derive(Clone, Copy, PartialEq, Eq)]
 pub struct Fix {
     pub t: Seconds,
     pub x: Coordinate,
@@ -66,43 +65,17 @@ fn axis_deviation(i: Coordinate, m: Coordinate, j: Coordinate, d: Duration, s: D
     ((m.0 as i64) - start) * (d.0 as i64) - ((j.0 as i64) - start) * (s.0 as i64)
 }
 
-// Nx and Ny of an inner fix.
-#[derive(Clone, Copy)]
-struct PerAxis {
-    x: i64,
-    y: i64,
-}
-
-// Those of the inner fix m of the span from i to j.
-fn deviations(i: Fix, m: Fix, j: Fix) -> PerAxis
+// Nx and Ny of the inner fix m of the span from i to j.
+fn deviations(i: Fix, m: Fix, j: Fix) -> (i64, i64)
     requires { Between (fix_of i) (fix_of m) (fix_of j) }
-    ensures { (result.x ≡ Nx (fix_of i) (fix_of m) (fix_of j)) × (result.y ≡ Ny (fix_of i) (fix_of m) (fix_of j)) }
+    ensures { (result.0 ≡ Nx (fix_of i) (fix_of m) (fix_of j)) × (result.1 ≡ Ny (fix_of i) (fix_of m) (fix_of j)) }
 {
     let d = since(i.t, j.t);
     let s = since(i.t, m.t);
-    let nx = axis_deviation(i.x, m.x, j.x, d, s);
-    let ny = axis_deviation(i.y, m.y, j.y, d, s);
-    PerAxis { x: nx, y: ny }
-}
-
-// Nx² + Ny² of the inner fix m of the span from i to j. Each signed square is below 2⁶³, so no branch is spent on a sign, and the sum is below 2⁶⁴.
-pub fn deviation(i: Fix, m: Fix, j: Fix) -> u64
-    requires { Off one_word (fix_of i) (fix_of m) (fix_of j) }
-    ensures { result ≡ deviation (fix_of i) (fix_of m) (fix_of j) }
-{
-    let n = deviations(i, m, j);
-    let x = n.x;
-    let y = n.y;
-    (x * x) as u64 + (y * y) as u64
-}
-
-// The same number in two words, for a span that one word may be too small for.
-pub fn deviation_words(i: Fix, m: Fix, j: Fix) -> Words
-    requires { Off greatest_N (fix_of i) (fix_of m) (fix_of j) }
-    ensures { WordsOf (deviation (fix_of i) (fix_of m) (fix_of j)) result }
-{
-    let n = deviations(i, m, j);
-    sum_of_squares(magnitude(n.x), magnitude(n.y))
+    (
+        axis_deviation(i.x, m.x, j.x, d, s),
+        axis_deviation(i.y, m.y, j.y, d, s),
+    )
 }
 
 // e²·D² of the span from i to j.
@@ -113,17 +86,6 @@ pub fn allowance(e: Tolerance, i: Fix, j: Fix) -> u64
     let d = since(i.t, j.t);
     let reach = (e.0 as u64) * (d.0 as u64);
     reach * reach
-}
-
-// |z|, of every number of 64 bits but the least, which has no opposite.
-pub fn magnitude(z: i64) -> u64
-    requires { nat_abs z ≤ 9223372036854775807 }
-    ensures { result ≡ nat_abs z }
-{
-    if z < 0 {
-        return (0 - z) as u64;
-    }
-    z as u64
 }
 
 // n/d, of numbers that aren't negative: the nearest whole number, halves upward.
@@ -141,17 +103,13 @@ pub fn rounded(n: i64, d: u32) -> Coordinate
     requires { Roundable n d }
     ensures { result.0 ≡ rounded n (pos d) }
 {
-    let whole = half_up(magnitude(n), d);
-    if n < 0 {
-        return Coordinate(0 - whole);
-    }
-    Coordinate(whole)
+    let whole = half_up(n.unsigned_abs(), d);
+    Coordinate(if n < 0 { -whole } else { whole })
 }
 
 // Whether a silence follows a fix.
 pub fn silent(f: Fix) -> bool
     ensures { result ≡ silent (fix_of f) }
 {
-    let s = f.silence;
-    s.0 == 1
+    f.silence.0 == 1
 }

@@ -1,12 +1,12 @@
 -- The interface's numbers: 0 is no check's number, so that a refusal of 0 is none; and what the functions' arms answer.
-use Rattle.std.specs.Prelude.{◌≡◌, refl, Bool, List, [], ℕ, ◌≤◌, length, ℤ, pos}
+use Rattle.std.specs.Prelude.{Result, Ok, Err, ◌≡◌, refl, Bool, List, [], ℕ, ◌≤◌, length, ℤ, pos}
 use Rattle.std.proofs.Common.{sym, ◌∙◌, ap, arith}
 use Rattle.std.proofs.Math.Option.{Option, some, none}
 use Rattle.distance.specs.Fix.{Fix}
 use Rattle.format.specs.Kinds.{Kind}
 use Rattle.format.specs.Format.{kind_field, count_field, mark_field, of_head}
 use Rattle.record.specs.Checks.{Check, few_bytes, other_kind, bad_count, bad_length, short_record, bad_mark, misplaced, unordered, long_span, high_tolerance, bad_thousandths, bad_moment, bad_window, bad_box, short_output, bad_silence, moment_in_silence, bad_row_count, bad_rows, bad_point, bad_reading, bad_state, bad_new_place, Row, number, first, FirstHolds, this, not_before, refusal_of, placing, crossing as crosses, approaching, read_refusal, load_refusal, anchor_refusal}
-use Rattle.record.specs.Answers.{Answer, gives, turns_away, answer as told, unless}
+use Rattle.record.specs.Answers.{Answer, gives, turns_away, number_of, answer as told, unless}
 use Rattle.record.proofs.Examples.{row}
 use Rattle.table.specs.Answers.{row_at, table_of}
 use Rattle.table.proofs.Laws.Checking.{count_is}
@@ -24,14 +24,12 @@ use Rattle.moment.specs.Moment.{asked_moment, place_answer}
 use Rattle.crossing.specs.Crossing.{asked_crossing, cross_answer}
 use Rattle.approach.specs.Approach.{asked_near, near_answer}
 use Rattle.moment.specs.declared.Spot.{Spot}
-use Rattle.moment.specs.declared.Placed.{Placed}
-use Rattle.moment.specs.declared.Placed.TheVariants as Place
+use Rattle.record.specs.declared.refusal.Refusal.{Refusal}
 use Rattle.moment.specs.Answers.{placed}
 use Rattle.distance.specs.declared.Point.{Point as CodePoint}
 use Rattle.anchors.specs.declared.State.{State}
 use Rattle.anchors.specs.declared.Reading.{Reading}
 use Rattle.anchors.specs.declared.Anchored.{Anchored as CodeAnchored}
-use Rattle.anchors.specs.declared.Anchored.TheVariants as Said
 use Rattle.anchors.specs.Anchors.{report, anchor_answer, state_after, NothingLost}
 use Rattle.anchors.specs.Claim.{after_all, AnchorClaim}
 use Rattle.anchors.specs.Answers.{answered, state_left}
@@ -181,7 +179,7 @@ module _ (b : List ℕ) where
       rw (h, ek, en, em, of_head_field kind_field b ten, of_head_field count_field b ten, of_head_field mark_field b ten) refl
 
 -- ---- the questions: a place as numbers; and the same window and box are the same question
-pub spot_at : (s : Spot) (x y p q : ℤ) (a : Placed) → x ≡ s.x → y ≡ s.y → p ≡ s.whole.x.0 → q ≡ s.whole.y.0 → a ≡ Place.At s
+pub spot_at : (s : Spot) (x y p q : ℤ) (a : Result Spot Refusal) → x ≡ s.x → y ≡ s.y → p ≡ s.whole.x.0 → q ≡ s.whole.y.0 → a ≡ Ok s
     → ◌≡◌ {A = Numbers} (record { refusal = 0; denominator = s.d; x = x; y = y; whole_x = p; whole_y = q }) (spot_numbers (placed a))
 spot_at s x y p q a ex ey ep eq h = rw (ex, ey, ep, eq, h) refl
 
@@ -196,13 +194,13 @@ same_point h k = rw (h, k) refl
 
 -- ---- an anchor's reading: what is answered of it, of the state that is handed in as numbers
 module _ (h : AnchorState) where
-  pub anchored_at : (s : State) (P : CodePoint) (x y : ℤ) (t : AnchorState) (a : CodeAnchored) → x ≡ P.x.0 → y ≡ P.y.0 → t ≡ state_numbers s → a ≡ Said.At s P
+  pub anchored_at : (s : State) (P : CodePoint) (x y : ℤ) (t : AnchorState) (a : CodeAnchored) → x ≡ P.x.0 → y ≡ P.y.0 → t ≡ state_numbers s → a.state ≡ s → a.place ≡ Ok P
       → ◌≡◌ {A = Anchored} (record { refusal = 0; x = x; y = y; state = t }) (anchored_numbers h (answered a) (state_left a))
-  anchored_at s P x y t a ex ey et e = rw (ex, ey, et, e) refl
+  anchored_at s P x y t a ex ey et is e = rw (ex, ey, et, e, is) refl
 
-  pub anchored_refused : (s : State) (k n : ℕ) (a : CodeAnchored) → n ≡ k → a ≡ Said.Refused s k
+  pub anchored_refused : (k : Refusal) (n : ℕ) (a : CodeAnchored) → n ≡ number_of k → a.place ≡ Err k
       → ◌≡◌ {A = Anchored} (record { refusal = n; x = pos 0; y = pos 0; state = h }) (anchored_numbers h (answered a) (state_left a))
-  anchored_refused s k n a en e = rw (en, e) refl
+  anchored_refused k n a en e = rw (en, e) refl
 
   pub anchored_read : (s : State) (r : Reading) (a : CodeAnchored) → s ≡ state_of h → (answered a ≡ anchor_answer s r) × (state_left a ≡ state_after s r) × NothingLost s r (state_left a)
       → anchored_numbers h (answered a) (state_left a) ≡ read_numbers h r

@@ -5,33 +5,30 @@ ghost use Rattle.anchors.specs.Claim.{after_all, AnchorClaim, column_readings};
 ghost use Rattle.anchors.specs.Answers.{answered, state_left};
 ghost use Rattle.export.specs.Interface.{state_of, state_numbers, anchored_numbers, read_numbers};
 
-use crate::{AnchorState, Anchored};
+use crate::{AnchorState, Anchored, number};
 use anchors::{Reading, State};
 
-fn state_of(s: AnchorState) -> State
-    ensures { result ≡ state_of s }
-{
-    State {
-        x: s.x,
-        y: s.y,
-        seen: s.seen != 0,
+impl From<AnchorState> for State {
+    ghost from_gives = { λ numbers state. state ≡ state_of numbers };
+
+    fn from(numbers: AnchorState) -> State {
+        State {
+            x: numbers.x,
+            y: numbers.y,
+            seen: numbers.seen != 0,
+        }
     }
 }
 
-fn state_numbers(s: State) -> AnchorState
-    ensures { result ≡ state_numbers s }
-{
-    if s.seen {
-        return AnchorState {
-            x: s.x,
-            y: s.y,
-            seen: 1,
-        };
-    }
-    AnchorState {
-        x: s.x,
-        y: s.y,
-        seen: 0,
+impl From<State> for AnchorState {
+    ghost from_gives = { λ state numbers. numbers ≡ state_numbers state };
+
+    fn from(state: State) -> AnchorState {
+        AnchorState {
+            x: state.x,
+            y: state.y,
+            seen: u32::from(state.seen),
+        }
     }
 }
 
@@ -39,18 +36,15 @@ fn state_numbers(s: State) -> AnchorState
 fn anchored_of(s: AnchorState, a: anchors::Anchored) -> Anchored
     ensures { result ≡ anchored_numbers s (answered a) (state_left a) }
 {
-    match a {
-        anchors::Anchored::At(t, p) => {
-            let state = state_numbers(t);
-            Anchored {
-                refusal: 0,
-                x: crate::whole(p.x),
-                y: crate::whole(p.y),
-                state,
-            }
+    match a.place {
+        Ok(p) => Anchored {
+            refusal: 0,
+            x: p.x.0,
+            y: p.y.0,
+            state: AnchorState::from(a.state),
         },
-        anchors::Anchored::Refused(_, k) => Anchored {
-            refusal: crate::wide(k),
+        Err(refusal) => Anchored {
+            refusal: number(refusal),
             x: 0,
             y: 0,
             state: s,
@@ -63,8 +57,7 @@ fn anchored_of(s: AnchorState, a: anchors::Anchored) -> Anchored
 pub extern "C" fn trails_anchor_absolute(s: AnchorState, x: f32, y: f32) -> Anchored
     ensures { (result ≡ read_numbers s (Reading.Absolute x y)) × NothingLost (state_of s) (Reading.Absolute x y) (state_after (state_of s) (Reading.Absolute x y)) }
 {
-    let a = anchors::read(state_of(s), Reading::Absolute(x, y));
-    anchored_of(s, a)
+    anchored_of(s, anchors::read(State::from(s), Reading::Absolute(x, y)))
 }
 
 // Reads a step from the last place.
@@ -72,8 +65,7 @@ pub extern "C" fn trails_anchor_absolute(s: AnchorState, x: f32, y: f32) -> Anch
 pub extern "C" fn trails_anchor_step(s: AnchorState, x: f32, y: f32) -> Anchored
     ensures { (result ≡ read_numbers s (Reading.Step x y)) × NothingLost (state_of s) (Reading.Step x y) (state_after (state_of s) (Reading.Step x y)) }
 {
-    let a = anchors::read(state_of(s), Reading::Step(x, y));
-    anchored_of(s, a)
+    anchored_of(s, anchors::read(State::from(s), Reading::Step(x, y)))
 }
 
 // Reads a list, whose columns say which readings are steps, and x and y of each; it is as long as the shortest.
@@ -86,6 +78,5 @@ pub extern "C" fn trails_anchor_all(
 ) -> AnchorState
     ensures { (result ≡ state_numbers (after_all (state_of s) (column_readings step.now xs.now ys.now))) × AnchorClaim (state_of s) (column_readings step.now xs.now ys.now) }
 {
-    let t = anchors::read_all(state_of(s), step, xs, ys);
-    state_numbers(t)
+    AnchorState::from(anchors::read_all(State::from(s), step, xs, ys))
 }

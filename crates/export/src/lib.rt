@@ -1,5 +1,6 @@
 // The interface for programs in other languages: thin functions over the layers, with numbers for answers. A refusal is its number, and 0 is none.
-// None asks anything of its caller, since nothing would check that. include/trails.h says the same to a C programmer.
+// None asks anything of its caller, since nothing would check that. include/trails.h says the same to a C programmer. C has no option and no result: in the
+// structs below a number says whether the others mean something, and each kind has a function of its own name, over columns side by side.
 #![tactic(auto)]
 
 mod anchors_of;
@@ -11,7 +12,7 @@ ghost use Rattle.format.specs.Kinds.{trail, millimetre_trail, silence_trail};
 ghost use Rattle.format.specs.Format.{kind_field};
 ghost use Rattle.text.specs.Text.{text};
 ghost use Rattle.reading.specs.Reading.{read_answer, times_read, xs_read, ys_read, silences_read};
-ghost use Rattle.record.specs.Answers.{gives};
+ghost use Rattle.record.specs.Answers.{gives, answer_by, number_of};
 ghost use Rattle.reading.specs.Answers.{found};
 ghost use Rattle.writing.specs.Answers.{wrote};
 ghost use Rattle.writing.specs.Writing.{columns, write_answer, written};
@@ -21,11 +22,10 @@ ghost use Rattle.aging.specs.Aging.{age_answer, aged, days_answer, aged_by_days}
 ghost use Rattle.dearest.specs.Dearest.{dearest_answer, dearest_written};
 ghost use Rattle.export.specs.Interface.{head_numbers, yield_answer, step_numbers, value_numbers};
 
-use aging::Aged;
-use distance::{Coordinate, Tolerance};
+use distance::{Fix, Tolerance};
 use format::Kind;
+use record::Refusal;
 use table::{Days, Table};
-use writing::Written;
 
 // Whether a record was accepted, and then what its head says.
 #[repr(C)]
@@ -137,16 +137,11 @@ pub struct Anchored {
     pub state: AnchorState,
 }
 
-fn wide(k: u8) -> u32
-    ensures { result ≡ k }
+// The number of a refusal, as wide as the structs have it.
+fn number(refusal: Refusal) -> u32
+    ensures { result ≡ number_of refusal }
 {
-    k as u32
-}
-
-fn whole(c: Coordinate) -> i32
-    ensures { result ≡ c.0 }
-{
-    c.0
+    u32::from(refusal.number())
 }
 
 // Checks 1 to 9 and 20.
@@ -154,15 +149,14 @@ fn whole(c: Coordinate) -> i32
 pub extern "C" fn trails_check(b: &[u8]) -> Head
     ensures { result ≡ head_numbers b.now }
 {
-    let c = record::check(b);
-    match c {
-        record::Checked::Refused(k) => Head {
-            refusal: wide(k),
+    match record::check(b) {
+        Err(refusal) => Head {
+            refusal: number(refusal),
             kind: 0,
             count: 0,
             mark: 0,
         },
-        record::Checked::Accepted => {
+        Ok(()) => {
             let h = format::head_of(b);
             Head {
                 refusal: 0,
@@ -174,25 +168,21 @@ pub extern "C" fn trails_check(b: &[u8]) -> Head
     }
 }
 
-// What a reader yielded of a record of this kind, as numbers.
-fn step_of(s: reading::Step, kind: u32) -> Step
-    ensures { result ≡ step_numbers kind (gives (found s)) }
+// What a reader yielded of a record of this kind, as numbers. (No `From`, since the kind stands beside the fix.)
+fn step_of(fix: Option<Fix>, kind: u32) -> Step
+    ensures { result ≡ step_numbers kind (gives (found fix)) }
 {
-    match s {
-        reading::Step::Found(f) => {
-            let t = f.t;
-            let s = f.silence;
-            Step {
-                refusal: 0,
-                found: 1,
-                kind,
-                t: t.0,
-                x: whole(f.x),
-                y: whole(f.y),
-                silence: wide(s.0),
-            }
+    match fix {
+        Some(f) => Step {
+            refusal: 0,
+            found: 1,
+            kind,
+            t: f.t.0,
+            x: f.x.0,
+            y: f.y.0,
+            silence: u32::from(f.silence.0),
         },
-        reading::Step::NoneLeft => Step {
+        None => Step {
             refusal: 0,
             found: 0,
             kind: 0,
@@ -209,10 +199,9 @@ fn step_of(s: reading::Step, kind: u32) -> Step
 pub extern "C" fn trails_read(b: &[u8], position: usize) -> Step
     ensures { result ≡ step_numbers (kind_field b.now) (yield_answer b.now position) }
 {
-    let c = record::check(b);
-    match c {
-        record::Checked::Refused(k) => Step {
-            refusal: wide(k),
+    match record::check(b) {
+        Err(refusal) => Step {
+            refusal: number(refusal),
             found: 0,
             kind: 0,
             t: 0,
@@ -220,10 +209,22 @@ pub extern "C" fn trails_read(b: &[u8], position: usize) -> Step
             y: 0,
             silence: 0,
         },
-        record::Checked::Accepted => {
-            let h = format::head_of(b);
-            step_of(reading::read_at(b, position), h.kind)
-        },
+        Ok(()) => step_of(reading::read_at(b, position), format::head_of(b).kind),
+    }
+}
+
+// What a call answers that gives one number.
+impl From<Result<u32, Refusal>> for Answer {
+    ghost from_gives = { λ said answer. answer ≡ value_numbers (answer_by (λ n. n) said) };
+
+    fn from(said: Result<u32, Refusal>) -> Answer {
+        match said {
+            Ok(value) => Answer { refusal: 0, value },
+            Err(refusal) => Answer {
+                refusal: number(refusal),
+                value: 0,
+            },
+        }
     }
 }
 
@@ -238,33 +239,7 @@ pub extern "C" fn trails_read_all(
 ) -> Answer
     ensures { (result ≡ value_numbers (read_answer b.now)) × (t.new ≡ times_read b.now t.old) × (x.new ≡ xs_read b.now x.old) × (y.new ≡ ys_read b.now y.old) × (silence.new ≡ silences_read b.now silence.old) }
 {
-    let a = reading::read_all(b, t, x, y, silence);
-    match a {
-        reading::AllRead::Count(fixes) => Answer {
-            refusal: 0,
-            value: fixes,
-        },
-        reading::AllRead::Refused(k) => Answer {
-            refusal: wide(k),
-            value: 0,
-        },
-    }
-}
-
-// What a writer answers, as numbers.
-fn length_of(w: Written) -> Answer
-    ensures { result ≡ value_numbers (wrote w) }
-{
-    match w {
-        Written::Length(bytes) => Answer {
-            refusal: 0,
-            value: bytes,
-        },
-        Written::Refused(k) => Answer {
-            refusal: wide(k),
-            value: 0,
-        },
-    }
+    Answer::from(reading::read_all(b, t, x, y, silence))
 }
 
 // The record of the fixes whose times and coordinates the three columns have, in centimetres: kind 1.
@@ -272,8 +247,7 @@ fn length_of(w: Written) -> Answer
 pub extern "C" fn trails_write(t: &[u32], x: &[i32], y: &[i32], out: &mut [u8]) -> Answer
     ensures { (result ≡ value_numbers (write_answer trail (columns trail t.now x.now y.now []) out.old)) × (out.new ≡ written trail (columns trail t.now x.now y.now []) out.old) }
 {
-    let w = writing::write(Kind::Trail, t, x, y, b"", out);
-    length_of(w)
+    Answer::from(writing::write(Kind::Trail, t, x, y, b"", out))
 }
 
 // The same in millimetres: kind 2.
@@ -286,8 +260,7 @@ pub extern "C" fn trails_write_millimetres(
 ) -> Answer
     ensures { (result ≡ value_numbers (write_answer millimetre_trail (columns millimetre_trail t.now x.now y.now []) out.old)) × (out.new ≡ written millimetre_trail (columns millimetre_trail t.now x.now y.now []) out.old) }
 {
-    let w = writing::write(Kind::MillimetreTrail, t, x, y, b"", out);
-    length_of(w)
+    Answer::from(writing::write(Kind::MillimetreTrail, t, x, y, b"", out))
 }
 
 // The same in centimetres with silences, which a fourth column has: kind 3.
@@ -301,8 +274,7 @@ pub extern "C" fn trails_write_silences(
 ) -> Answer
     ensures { (result ≡ value_numbers (write_answer silence_trail (columns silence_trail t.now x.now y.now silence.now) out.old)) × (out.new ≡ written silence_trail (columns silence_trail t.now x.now y.now silence.now) out.old) }
 {
-    let w = writing::write(Kind::SilenceTrail, t, x, y, silence, out);
-    length_of(w)
+    Answer::from(writing::write(Kind::SilenceTrail, t, x, y, silence, out))
 }
 
 // The record of the dearest trail of n fixes: kind 1.
@@ -310,8 +282,7 @@ pub extern "C" fn trails_write_silences(
 pub extern "C" fn trails_dearest(n: usize, out: &mut [u8]) -> Answer
     ensures { (result ≡ value_numbers (dearest_answer n out.old)) × (out.new ≡ dearest_written n out.old) }
 {
-    let w = dearest::write_dearest(n, out);
-    length_of(w)
+    Answer::from(dearest::write_dearest(n, out))
 }
 
 // The listing's text of the lent bytes, at the start of the output, and its length.
@@ -322,29 +293,12 @@ pub extern "C" fn trails_list(b: &[u8], out: &mut [u8; 159765]) -> usize
     text::list(b, out)
 }
 
-// What an aging answers, as numbers.
-fn count_of(a: Aged) -> Answer
-    ensures { result ≡ value_numbers (counted a) }
-{
-    match a {
-        Aged::Count(measured) => Answer {
-            refusal: 0,
-            value: measured,
-        },
-        Aged::Refused(k) => Answer {
-            refusal: wide(k),
-            value: 0,
-        },
-    }
-}
-
 // Ages the record at the start of the buffer by tolerance.
 #[unsafe(no_mangle)]
 pub extern "C" fn trails_age(b: &mut [u8], tolerance: u16) -> Answer
     ensures { (result ≡ value_numbers (age_answer b.old tolerance)) × (b.new ≡ aged b.old tolerance) }
 {
-    let a = aging::age(b, Tolerance(tolerance));
-    count_of(a)
+    Answer::from(aging::age(b, Tolerance(tolerance)))
 }
 
 // Ages the record at the start of the buffer by days, by the table that is handed in.
@@ -352,6 +306,5 @@ pub extern "C" fn trails_age(b: &mut [u8], tolerance: u16) -> Answer
 pub extern "C" fn trails_age_by_days(b: &mut [u8], days: u16, t: Table) -> Answer
     ensures { (result ≡ value_numbers (days_answer b.old days (table_of t))) × (b.new ≡ aged_by_days b.old days (table_of t)) }
 {
-    let a = aging::age_by_days(b, Days(days), t);
-    count_of(a)
+    Answer::from(aging::age_by_days(b, Days(days), t))
 }

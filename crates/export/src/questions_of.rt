@@ -15,89 +15,113 @@ ghost use Rattle.questions.specs.Answers.{ran};
 ghost use Rattle.questions.specs.Claim.{Claim};
 ghost use Rattle.export.specs.Interface.{spot_numbers, crossing_numbers, approach_numbers, run_numbers};
 
-use crate::{Approach, Crossing, Run, Spot};
-use approach::{Approached, Radius};
-use crossing::{Crossed, Edges, Window};
+use crate::{Approach, Crossing, Run, Spot, number};
+use approach::Radius;
+use crossing::{Edges, Window};
 use distance::{Coordinate, Point, Seconds};
-use moment::Placed;
-use questions::Ran;
+use legs::Fraction;
+use record::Refusal;
 
-fn spot_of(p: Placed) -> Spot
-    ensures { result ≡ spot_numbers (placed p) }
-{
-    match p {
-        Placed::At(s) => {
-            let w = s.whole;
-            Spot {
+// Where the trail is.
+impl From<Result<moment::Spot, Refusal>> for Spot {
+    ghost from_gives = { λ said numbers. numbers ≡ spot_numbers (placed said) };
+
+    fn from(said: Result<moment::Spot, Refusal>) -> Spot {
+        match said {
+            Ok(s) => Spot {
                 refusal: 0,
                 denominator: s.d,
                 x: s.x,
                 y: s.y,
-                whole_x: crate::whole(w.x),
-                whole_y: crate::whole(w.y),
-            }
-        },
-        Placed::Refused(k) => Spot {
-            refusal: crate::wide(k),
-            denominator: 0,
-            x: 0,
-            y: 0,
-            whole_x: 0,
-            whole_y: 0,
-        },
+                whole_x: s.whole.x.0,
+                whole_y: s.whole.y.0,
+            },
+            Err(refusal) => Spot {
+                refusal: number(refusal),
+                denominator: 0,
+                x: 0,
+                y: 0,
+                whole_x: 0,
+                whole_y: 0,
+            },
+        }
     }
 }
 
-fn crossing_of(c: Crossed) -> Crossing
-    ensures { result ≡ crossing_numbers (crossed c) }
-{
-    match c {
-        Crossed::Told(f) => Crossing {
-            refusal: 0,
-            crosses: 1,
-            numerator: f.num,
-            denominator: f.den,
-        },
-        Crossed::Denied => Crossing {
-            refusal: 0,
-            crosses: 0,
-            numerator: 0,
-            denominator: 0,
-        },
-        Crossed::Refused(k) => Crossing {
-            refusal: crate::wide(k),
-            crosses: 0,
-            numerator: 0,
-            denominator: 0,
-        },
+// Whether it crosses a box.
+impl From<Result<Option<Fraction>, Refusal>> for Crossing {
+    ghost from_gives = { λ said numbers. numbers ≡ crossing_numbers (crossed said) };
+
+    fn from(said: Result<Option<Fraction>, Refusal>) -> Crossing {
+        match said {
+            Ok(Some(time)) => Crossing {
+                refusal: 0,
+                crosses: 1,
+                numerator: time.num,
+                denominator: time.den,
+            },
+            Ok(None) => Crossing {
+                refusal: 0,
+                crosses: 0,
+                numerator: 0,
+                denominator: 0,
+            },
+            Err(refusal) => Crossing {
+                refusal: number(refusal),
+                crosses: 0,
+                numerator: 0,
+                denominator: 0,
+            },
+        }
     }
 }
 
-fn approach_of(c: Approached) -> Approach
-    ensures { result ≡ approach_numbers (approached c) }
-{
-    match c {
-        Approached::Told(f) => Approach {
-            refusal: 0,
-            approaches: 1,
-            leg: f.leg,
-            numerator: f.num,
-            denominator: f.den,
-        },
-        Approached::Denied => Approach {
-            refusal: 0,
-            approaches: 0,
-            leg: 0,
-            numerator: 0,
-            denominator: 0,
-        },
-        Approached::Refused(k) => Approach {
-            refusal: crate::wide(k),
-            approaches: 0,
-            leg: 0,
-            numerator: 0,
-            denominator: 0,
-        },
+// Whether it comes near a point.
+impl From<Result<Option<approach::Approach>, Refusal>> for Approach {
+    ghost from_gives = { λ said numbers. numbers ≡ approach_numbers (approached said) };
+
+    fn from(said: Result<Option<approach::Approach>, Refusal>) -> Approach {
+        match said {
+            Ok(Some(time)) => Approach {
+                refusal: 0,
+                approaches: 1,
+                leg: time.leg,
+                numerator: time.num,
+                denominator: time.den,
+            },
+            Ok(None) => Approach {
+                refusal: 0,
+                approaches: 0,
+                leg: 0,
+                numerator: 0,
+                denominator: 0,
+            },
+            Err(refusal) => Approach {
+                refusal: number(refusal),
+                approaches: 0,
+                leg: 0,
+                numerator: 0,
+                denominator: 0,
+            },
+        }
+    }
+}
+
+// How many calls of a list were turned away.
+impl From<Result<usize, Refusal>> for Run {
+    ghost from_gives = { λ said numbers. numbers ≡ run_numbers (ran said) };
+
+    fn from(said: Result<usize, Refusal>) -> Run {
+        match said {
+            Ok(turned_away) => Run {
+                refusal: 0,
+                turned_away,
+            },
+            Err(refusal) => Run {
+                refusal: number(refusal),
+                turned_away: 0,
+            },
+        }
     }
 }
 
@@ -135,8 +159,7 @@ fn point(x: i32, y: i32) -> Point
 pub extern "C" fn trails_place(b: &[u8], second: u32, thousandths: u16) -> Spot
     ensures { result ≡ spot_numbers (place_answer b.now second thousandths) }
 {
-    let p = moment::place(b, Seconds(second), thousandths);
-    spot_of(p)
+    Spot::from(moment::place(b, Seconds(second), thousandths))
 }
 
 // Whether the trail crosses a box in a window.
@@ -152,8 +175,9 @@ pub extern "C" fn trails_crosses(
 ) -> Crossing
     ensures { (result ≡ crossing_numbers (cross_answer b.now start end (box_with left right bottom top))) × CrossMeans b.now start end (box_with left right bottom top) (cross_answer b.now start end (box_with left right bottom top)) }
 {
-    let c = crossing::crosses(b, window(start, end), edges(left, right, bottom, top));
-    crossing_of(c)
+    let w = window(start, end);
+    let e = edges(left, right, bottom, top);
+    Crossing::from(crossing::crosses(b, w, e))
 }
 
 // Whether the trail comes within a radius of a point.
@@ -161,24 +185,7 @@ pub extern "C" fn trails_crosses(
 pub extern "C" fn trails_near(b: &[u8], x: i32, y: i32, radius: u32) -> Approach
     ensures { (result ≡ approach_numbers (near_answer b.now (point_at x y) radius)) × NearMeans b.now (point_at x y) radius (near_answer b.now (point_at x y) radius) }
 {
-    let c = approach::near(b, point(x, y), Radius(radius));
-    approach_of(c)
-}
-
-// What making a list answers, as numbers.
-fn run_of(r: Ran) -> Run
-    ensures { result ≡ run_numbers (ran r) }
-{
-    match r {
-        Ran::TurnedAway(n) => Run {
-            refusal: 0,
-            turned_away: n,
-        },
-        Ran::Refused(k) => Run {
-            refusal: crate::wide(k),
-            turned_away: 0,
-        },
-    }
+    Approach::from(approach::near(b, point(x, y), Radius(radius)))
 }
 
 // Makes the agings of a list, one after the other, each by days with its own of the lent tables.
@@ -186,8 +193,7 @@ fn run_of(r: Ran) -> Run
 pub extern "C" fn trails_run(b: &mut [u8], calls: &[u64], tables: &[u16]) -> Run
     ensures { (result ≡ run_numbers (run_answer b.old (calls_of tables.now calls.now))) × (b.new ≡ run b.old (calls_of tables.now calls.now)) }
 {
-    let r = questions::call_all(b, calls, tables);
-    run_of(r)
+    Run::from(questions::call_all(b, calls, tables))
 }
 
 // Makes the agings of a list, one after the other, and then asks whether what is left crosses a box in a window; a question that is refused is refused
@@ -206,14 +212,13 @@ pub extern "C" fn trails_crosses_after(
 ) -> Crossing
     ensures { (result ≡ crossing_numbers (after_answer b.old (calls_of tables.now calls.now) start end (box_with left right bottom top))) × (b.new ≡ left_after b.old (calls_of tables.now calls.now) start end (box_with left right bottom top)) × (IsAccepted b.old → mark_field b.old ≡ never → Claim b.old (calls_of tables.now calls.now)) }
 {
-    let c = questions::crosses_after(
+    Crossing::from(questions::crosses_after(
         b,
         calls,
         tables,
         window(start, end),
         edges(left, right, bottom, top),
-    );
-    crossing_of(c)
+    ))
 }
 
 // The same with a radius question in the crossing's place.
@@ -228,6 +233,5 @@ pub extern "C" fn trails_near_after(
 ) -> Approach
     ensures { (result ≡ approach_numbers (near_after_answer b.old (calls_of tables.now calls.now) (point_at x y) radius)) × (b.new ≡ near_left_after b.old (calls_of tables.now calls.now) (point_at x y) radius) × (IsAccepted b.old → mark_field b.old ≡ never → Claim b.old (calls_of tables.now calls.now)) }
 {
-    let c = questions::near_after(b, calls, tables, point(x, y), Radius(radius));
-    approach_of(c)
+    Approach::from(questions::near_after(b, calls, tables, point(x, y), Radius(radius)))
 }

@@ -1,9 +1,10 @@
 -- THE KINDS OF RECORD THERE ARE, and what one may have otherwise than another. Document 01 has kind 1 ("1 = trail"); document 02, item 8, adds kind 2: "fixes of
 -- 12 bytes: time, x, y of 4 bytes each, places −160,000 to 160,000, length 10 + 12n, tolerance and mark up to 60,000 or never, all in millimetres". Item 5:
 -- "Kind 3 is kind 1 with one byte after each fix [..]: 1 = silence follows, 0 = none; its length is 10 + 9n."
-use Rattle.std.specs.Prelude.{Bool, false, cond, not, ◌||◌, List, [], ◌∷◌, ℕ, eqb}
+use Rattle.std.specs.Prelude.{◌≡◌, Result, MatchResult, Bool, false, cond, not, ◌||◌, List, [], ◌∷◌, ℕ, eqb}
 use Rattle.format.specs.declared.Kind.{Kind as CodeKind}
 use Rattle.format.specs.declared.Kind.TheVariants.{Trail, MillimetreTrail, SilenceTrail}
+use Rattle.format.specs.declared.kinds.UnknownKind.{UnknownKind}
 use Rattle.format.specs.declared.Unit.{Unit as CodeUnit}
 use Rattle.format.specs.declared.Unit.TheVariants.{Centimetres, Millimetres}
 
@@ -57,3 +58,7 @@ layout SilenceTrail = silence_trail
 abbrev pub units : CodeUnit → ℕ
 units Centimetres = 1
 units Millimetres = 10
+
+-- The code's kind of a number: the one that has it, or the number back, if none has.
+abbrev pub Decodes : ℕ → Result CodeKind UnknownKind → Type 0
+Decodes c r = MatchResult r (λ κ. (layout κ).code ≡ c) (λ e. (e.0 ≡ c) × (coded kinds c ≡ false))

@@ -2,6 +2,7 @@
 pub mod Bytes
 pub mod Kinds
 pub mod Format
+pub mod Fixes
 -- rows of numbers, computed on those definitions:
 pub mod Examples
 -- and relations by which inner functions are specified:

@@ -2,21 +2,17 @@
 ghost use Rattle.std.specs.Prelude.{◌≡◌, ◌+◌, ◌<◌, ◌≤◌, length};
 ghost use Rattle.std.proofs.lemmas.List.Edits.{sets};
 ghost use Rattle.format.specs.Bytes.{InBytes, number_at, bytes_of, signed, unsigned};
+ghost use Rattle.format.specs.Kinds.{layout};
 
+use crate::Kind;
 use distance::Coordinate;
 
-fn wide(x: u8) -> u32
-    ensures { (result ≡ x) × (result < 256) }
-{
-    x as u32
-}
-
-// The number of two bytes.
+// The number of two bytes. It and the next are a line each over std: one for both sizes would have a trait for them.
 pub(crate) fn two_at(b: &[u8], at: usize) -> u32
     requires { at + 2 ≤ length b.now }
     ensures { (result ≡ number_at b.now at 2) × (result < 65536) }
 {
-    wide(b[at]) + wide(b[at + 1]) * 256
+    u16::from_le_bytes([b[at], b[at + 1]]) as u32
 }
 
 // The number of four bytes.
@@ -24,38 +20,26 @@ pub(crate) fn four_at(b: &[u8], at: usize) -> u32
     requires { at + 4 ≤ length b.now }
     ensures { result ≡ number_at b.now at 4 }
 {
-    wide(b[at]) + wide(b[at + 1]) * 256 + wide(b[at + 2]) * 65536 + wide(b[at + 3]) * 16777216
+    u32::from_le_bytes([b[at], b[at + 1], b[at + 2], b[at + 3]])
 }
 
-// What a number of two bytes says in two's complement. It has 16 bits first and gets 32 after that, which is one instruction; from 32 bits it would be four.
-fn complement(n: u32) -> i16
-    requires { n < 65536 }
-    ensures { result ≡ signed 2 n }
+// The coordinate at a place, of as many bytes as its kind's have. Two bytes are 16 bits first and 32 after that, which is one instruction.
+pub(crate) fn coordinate_at(b: &[u8], kind: Kind, at: usize) -> Coordinate
+    requires { at + (layout kind).width ≤ length b.now }
+    ensures { result.0 ≡ signed (layout kind).width (number_at b.now at (layout kind).width) }
 {
-    if n < 32768 {
-        n as i16
-    } else {
-        -1 - ((65535 - n) as i16)
-    }
+    Coordinate(match kind {
+        Kind::Trail | Kind::SilenceTrail => (two_at(b, at) as u16).cast_signed() as i32,
+        Kind::MillimetreTrail => four_at(b, at).cast_signed(),
+    })
 }
 
-// The coordinate that a number of two bytes says ..
-pub(crate) fn coordinate(n: u32) -> Coordinate
-    requires { n < 65536 }
-    ensures { result.0 ≡ signed 2 n }
+// N bytes, put from a place on.
+fn put<const N: usize>(out: &mut [u8], at: usize, bytes: &[u8; N])
+    requires { at + N ≤ length out.old }
+    ensures { out.new ≡ sets out.old at bytes.now }
 {
-    Coordinate(complement(n) as i32)
-}
-
-// .. and one of four bytes.
-pub(crate) fn wide_coordinate(n: u32) -> Coordinate
-    ensures { result.0 ≡ signed 4 n }
-{
-    if n < 2147483648 {
-        Coordinate(n as i32)
-    } else {
-        Coordinate(-1 - ((4294967295 - n) as i32))
-    }
+    out[at..at + N].copy_from_slice(bytes);
 }
 
 // Two bytes of a number.
@@ -63,8 +47,7 @@ pub(crate) fn put_two(out: &mut [u8], at: usize, n: u32)
     requires { at + 2 ≤ length out.old }
     ensures { out.new ≡ sets out.old at (bytes_of 2 n) }
 {
-    out[at] = (n % 256) as u8;
-    out[at + 1] = (n / 256 % 256) as u8;
+    put(out, at, &((n % 65536) as u16).to_le_bytes());
 }
 
 // Four bytes of a number.
@@ -72,31 +55,16 @@ pub(crate) fn put_four(out: &mut [u8], at: usize, n: u32)
     requires { at + 4 ≤ length out.old }
     ensures { out.new ≡ sets out.old at (bytes_of 4 n) }
 {
-    out[at] = (n % 256) as u8;
-    out[at + 1] = (n / 256 % 256) as u8;
-    out[at + 2] = (n / 65536 % 256) as u8;
-    out[at + 3] = (n / 16777216 % 256) as u8;
+    put(out, at, &n.to_le_bytes());
 }
 
-// The number of two bytes that says a coordinate in two's complement ..
-pub(crate) fn coordinate_number(c: Coordinate) -> u32
-    requires { InBytes 2 c.0 }
-    ensures { result ≡ unsigned 2 c.0 }
+// A coordinate, in as many bytes as its kind's have.
+pub(crate) fn put_coordinate(out: &mut [u8], kind: Kind, at: usize, c: Coordinate)
+    requires { (at + (layout kind).width ≤ length out.old) × InBytes (layout kind).width c.0 }
+    ensures { out.new ≡ sets out.old at (bytes_of (layout kind).width (unsigned (layout kind).width c.0)) }
 {
-    let z = c.0 as i64;
-    if z < 0 {
-        return (z + 65536) as u32;
+    match kind {
+        Kind::Trail | Kind::SilenceTrail => put(out, at, &(c.0 as i16).to_le_bytes()),
+        Kind::MillimetreTrail => put(out, at, &c.0.to_le_bytes()),
     }
-    z as u32
-}
-
-// .. and the one of four bytes.
-pub(crate) fn wide_coordinate_number(c: Coordinate) -> u32
-    ensures { result ≡ unsigned 4 c.0 }
-{
-    let z = c.0 as i64;
-    if z < 0 {
-        return (z + 4294967296) as u32;
-    }
-    z as u32
 }

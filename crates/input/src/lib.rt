@@ -16,6 +16,7 @@ pub fn read_full<R: Read>(from: &mut R, bytes: &mut [u8]) -> io::Result<usize>
     ensures err { OnErr result ((n : ℕ) × (n ≤ length bytes.new) × Consumes (R.remaining from.old) (R.remaining from.new) (take n bytes.new)) }
 {
     let mut done = 0;
+    // A read brings as many bytes as it will, so there is no range or iterator to go over.
     while done < bytes.len() {
         let n = from.read(&mut bytes[done..])?;
         if n == 0 {

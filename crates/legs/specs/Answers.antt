@@ -1,11 +1,10 @@
--- What the enums of the code say, as the paper's numbers and values.
--- `declared.X` is the struct or enum X of the code, and `TheVariants` the cases of an enum.
-use Rattle.std.proofs.Math.Option.{Option, some, none}
+-- What the answers of the code say, as the paper's numbers and values.
+-- `declared.X` is the struct X of the code.
+use Rattle.std.specs.Prelude as code
+use Rattle.std.proofs.Math.Option.{Option}
+use Rattle.distance.specs.Options.{option_by}
 use Rattle.legs.specs.declared.Fraction.{Fraction}
-use Rattle.legs.specs.declared.Meeting.{Meeting}
-use Rattle.legs.specs.declared.Meeting.TheVariants as Find
 
 -- The first time that was found, or none.
-abbrev pub meeting : Meeting → Option Fraction
-meeting (Find.At f) = some f
-meeting Find.Never = none
+abbrev pub meeting : code.Option Fraction → Option Fraction
+meeting = option_by (λ (f : Fraction). f)

@@ -10,11 +10,11 @@ pub use leg::{leg_first, offset_of, raise};
 
 // How far a place is above −160,000, the lowest one of the widest kind of record. It serves every kind: from one place to another it is as far, wherever the
 // counting begins.
-#[derive(Clone, Copy)]
+#[derive(Clone, Copy, PartialEq, Eq, PartialOrd, Ord)]
 pub struct Offset(pub u32);
 
 // How far it is from one place of an axis to another: a length, where an offset is a place and a tolerance is asked for.
-#[derive(Clone, Copy)]
+#[derive(Clone, Copy, PartialEq, Eq, PartialOrd, Ord)]
 pub struct Extent(pub u32);
 
 // A fix in seconds after the first one, no number of it negative.
@@ -26,7 +26,7 @@ pub struct Raised {
 }
 
 // A box, no number of it negative.
-#[derive(Clone, Copy)]
+#[derive(Clone, Copy, PartialEq, Eq)]
 pub struct Frame {
     pub left: Offset,
     pub right: Offset,
@@ -34,23 +34,23 @@ pub struct Frame {
     pub top: Offset,
 }
 
-// The time num/den seconds after the first fix.
+// A window, in seconds after the first fix, both ends included.
 #[derive(Clone, Copy)]
+pub struct Window {
+    pub opens: Duration,
+    pub closes: Duration,
+}
+
+// The time num/den seconds after the first fix. Equal are two of one form: 1/2 isn't 2/4.
+#[derive(Clone, Copy, PartialEq, Eq)]
 pub struct Fraction {
     pub num: u64,
     pub den: u32,
 }
 
 // The times from the first to the last, both included.
-#[derive(Clone, Copy)]
+#[derive(Clone, Copy, PartialEq, Eq)]
 pub struct Times {
     pub first: Fraction,
     pub last: Fraction,
-}
-
-// The first time of some, or none.
-#[derive(Clone, Copy)]
-pub enum Meeting {
-    At(Fraction),
-    Never,
 }

@@ -1,6 +1,6 @@
 -- THE PLACE IN NUMBERS. Bytes and moments, written out, and what the papers say of them: the definitions and the code cannot be changed together without
 -- these rows. Each line is computed.
-use Rattle.std.specs.Prelude.{◌≡◌, refl, true, false, List, [], ◌∷◌, ◌++◌, ℕ, pos}
+use Rattle.std.specs.Prelude.{◌≡◌, refl, true, false, List, [], ◌∷◌, ◌++◌, ℕ, pos, Ok, Err}
 use Rattle.distance.proofs.Examples.{Computes, minus}
 use Rattle.distance.specs.Fix.{last_of}
 use Rattle.distance.specs.Place.{own}
@@ -21,7 +21,7 @@ use Rattle.record.specs.Tenfold.{tenfold_mark, tenfold_record}
 use Rattle.record.proofs.Laws.Tenfold.{tenfold_never}
 use Rattle.moment.specs.Answers.{standing, placed}
 use Rattle.moment.specs.declared.Spot.{Spot}
-use Rattle.moment.specs.declared.Placed.TheVariants.{At, Refused}
+use Rattle.record.specs.declared.refusal.Refusal.TheVariants.{MomentInSilence}
 use Rattle.moment.specs.Moment.{Standing, on_leg, moment_from, at_moment, place_answer}
 use Rattle.moment.specs.Mirror.{mirrored_record}
 use Rattle.moment.specs.Tenfold.{TenfoldPlace}
@@ -154,7 +154,7 @@ pub placed_in_millimetres : (s m : ℕ) → SameAnswer TenfoldPlace (place_answe
 unfolding kind_of all_below first sentence some_outside some_other_silence some_early_after some_early last_of of_ends fix_from fix_at each number_at signed
 placed_in_millimetres s m = place_answer_tenfold (tenfold_never place_trail (computed_bytes place_trail refl) (record { accepted = refl }) refl refl) s m
 
--- ---- what the code's struct and enum say: the fraction, and the rounded place beside it, or the refusal
+-- ---- what the code's struct and its answer say: the fraction, and the rounded place beside it, or the refusal
 pub standing_computed :
     standing (record {
       x = pos 5005;
@@ -165,5 +165,5 @@ pub standing_computed :
     ≡ record { exact = record { x = pos 5005; y = minus 15000; d = pos 10000 }; rounded_x = pos 1; rounded_y = minus 2 }
 standing_computed = refl
 
-pub answers_computed : (s : Spot) → Computes placed ((At s, gives (standing s)) ∷ (Refused 21, turns_away 21) ∷ [])
+pub answers_computed : (s : Spot) → Computes placed ((Ok s, gives (standing s)) ∷ (Err MomentInSilence, turns_away 21) ∷ [])
 answers_computed s = refl

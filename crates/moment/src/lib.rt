@@ -1,20 +1,21 @@
 // The questions layer: where a trail is at a moment.
 #![tactic(auto)]
 
-ghost use Rattle.std.specs.Prelude.{◌≡◌, ◌&&◌, ◌+◌, ◌*◌, ◌≤◌, pos, nat_abs};
+ghost use Rattle.std.specs.Prelude.{◌≡◌, ◌&&◌, ◌+◌, ◌*◌, ◌-◌, ◌≤◌, pos, nat_abs};
 ghost use Rattle.distance.specs.Fix.{fix_of, widest};
 ghost use Rattle.distance.specs.Place.{instant, own, leg, interpolated, place};
 ghost use Rattle.distance.specs.Silence.{silent, strictly_between, in_silence};
 ghost use Rattle.format.specs.Kinds.{layout};
-ghost use Rattle.format.specs.Format.{kind_of, fixes};
+ghost use Rattle.format.specs.Format.{fixes as trail_of};
 ghost use Rattle.record.specs.Checks.{IsAccepted};
+ghost use Rattle.record.specs.Laws.Trail.{FixesOf};
 ghost use Rattle.moment.specs.Moment.{beside, place_answer};
 ghost use Rattle.moment.specs.Answers.{standing, placed};
 ghost use Rattle.moment.specs.Laws.Ranges.{OnLeg, Reached, unless_silent};
 
-use distance::{Coordinate, Fix, Point, Seconds};
-use format::Kind;
-use record::Checked;
+use distance::{Coordinate, Fix, Point, Seconds, rounded, silent};
+use format::Fixes;
+use record::Refusal;
 
 // The place (x/d, y/d) in the unit of the record, and beside it the rounded one.
 #[derive(Clone, Copy)]
@@ -25,25 +26,27 @@ pub struct Spot {
     pub whole: Point,
 }
 
-// What the place question answers.
-#[derive(Clone, Copy)]
-pub enum Placed {
-    At(Spot),
-    Refused(u8),
-}
-
 // A moment on the fixes' own clock, in thousandths of a second.
-#[derive(Clone, Copy)]
+#[derive(Clone, Copy, PartialEq, Eq, PartialOrd, Ord)]
 pub struct Instant(pub u64);
 
 // The thousandths of a second from one moment to a later one of the same leg.
 #[derive(Clone, Copy)]
 pub struct Thousandths(pub u32);
 
-fn instant_of(s: Seconds, m: u16) -> Instant
-    ensures { result.0 ≡ 1000 * s.0 + m }
-{
-    Instant(1000 * (s.0 as u64) + (m as u64))
+impl Instant {
+    fn new(second: Seconds, thousandths: u16) -> Instant
+        ensures { result.0 ≡ 1000 * second.0 + thousandths }
+    {
+        Instant(1000 * (second.0 as u64) + (thousandths as u64))
+    }
+
+    fn until(self, later: Instant) -> Thousandths
+        requires { (self.0 ≤ later.0) × (later.0 ≤ self.0 + 4294967295) }
+        ensures { result.0 ≡ later.0 - self.0 }
+    {
+        Thousandths((later.0 - self.0) as u32)
+    }
 }
 
 // One axis of a place: from i to j in `over` thousandths of a second, `gone` of them gone, over `over`.
@@ -60,15 +63,14 @@ fn on_leg(a: Fix, b: Fix, u: Instant) -> Spot
     requires { OnLeg (fix_of a) (fix_of b) u.0 }
     ensures { standing result ≡ beside (leg (fix_of a) (fix_of b) (instant u.0)) }
 {
-    let start = instant_of(a.t, 0);
-    let end = instant_of(b.t, 0);
-    let over = Thousandths((end.0 - start.0) as u32);
-    let gone = Thousandths((u.0 - start.0) as u32);
+    let start = Instant::new(a.t, 0);
+    let over = start.until(Instant::new(b.t, 0));
+    let gone = start.until(u);
     let x = numerator(a.x, b.x, over, gone);
     let y = numerator(a.y, b.y, over, gone);
     let whole = Point {
-        x: distance::rounded(x, over.0),
-        y: distance::rounded(y, over.0),
+        x: rounded(x, over.0),
+        y: rounded(y, over.0),
     };
     Spot {
         x,
@@ -79,82 +81,74 @@ fn on_leg(a: Fix, b: Fix, u: Instant) -> Spot
 }
 
 // The place on the leg from a to b, or 21 if the moment is strictly inside a silence.
-fn heard_on_leg(a: Fix, b: Fix, u: Instant) -> Placed
+fn heard_on_leg(a: Fix, b: Fix, u: Instant) -> Result<Spot, Refusal>
     requires { OnLeg (fix_of a) (fix_of b) u.0 }
-    ensures { placed result ≡ unless_silent (silent (fix_of a) && strictly_between (fix_of a) (fix_of b) (instant u.0)) (leg (fix_of a) (fix_of b) (instant u.0)) }
+    ensures { placed result
+        ≡ unless_silent
+        (silent (fix_of a) && strictly_between (fix_of a) (fix_of b) (instant u.0))
+        (leg (fix_of a) (fix_of b) (instant u.0)) }
 {
-    let start = instant_of(a.t, 0);
-    let end = instant_of(b.t, 0);
-    if distance::silent(a) & ((start.0 < u.0) & (u.0 < end.0)) {
-        return Placed::Refused(21);
+    let start = Instant::new(a.t, 0);
+    let end = Instant::new(b.t, 0);
+    if silent(a) && start < u && u < end {
+        return Err(Refusal::MomentInSilence);
     }
-    Placed::At(on_leg(a, b, u))
+    Ok(on_leg(a, b, u))
 }
 
 // A fix's own place.
 fn alone(a: Fix) -> Spot
     ensures { standing result ≡ beside (own (fix_of a)) }
 {
-    let cx = a.x;
-    let cy = a.y;
-    let whole = Point { x: cx, y: cy };
     Spot {
-        x: cx.0 as i64,
-        y: cy.0 as i64,
+        x: a.x.0 as i64,
+        y: a.y.0 as i64,
         d: 1,
-        whole,
+        whole: Point { x: a.x, y: a.y },
     }
 }
 
 // The place on the first leg whose end isn't earlier than the moment, or 21.
-fn place_on(b: &[u8], kind: Kind, n: usize, u: Instant) -> Placed
-    requires { Reached (layout kind) b.now n u.0 }
-    ensures { placed result ≡ unless_silent (in_silence (fixes b.now) (instant u.0)) (place (fixes b.now) (instant u.0)) }
+fn place_on(fixes: Fixes<'_>, u: Instant) -> Result<Spot, Refusal>
+    requires { Reached (layout fixes.kind) fixes.bytes.now fixes.count u.0 }
+    ensures { placed result
+        ≡ unless_silent
+        (in_silence (trail_of fixes.entry.bytes.now) (instant u.0))
+        (place (trail_of fixes.entry.bytes.now) (instant u.0)) }
 {
-    let mut a = format::fix_at(b, kind, 0);
-    let mut k = 1;
-    while k < n {
-        let z = format::fix_at(b, kind, k);
-        let end = instant_of(z.t, 0);
-        if u.0 <= end.0 {
+    let mut a = fixes.at(0);
+    for k in 1..fixes.count {
+        let z = fixes.at(k);
+        if u <= Instant::new(z.t, 0) {
             return heard_on_leg(a, z, u);
         }
         a = z;
-        k += 1;
     }
-    Placed::At(alone(a))
+    Ok(alone(a))
 }
 
-// Checks 11, 12 and 21, and the answer, of a record that is accepted.
-fn place_accepted(b: &[u8], kind: Kind, second: Seconds, thousandths: u16) -> Placed
-    requires { IsAccepted b.now × (layout kind ≡ kind_of b.now) }
-    ensures { placed result ≡ place_answer b.now second.0 thousandths }
+// Checks 11, 12 and 21, and the answer, of the fixes of a record that is accepted.
+fn place_accepted(fixes: Fixes<'_>, second: Seconds, thousandths: u16) -> Result<Spot, Refusal>
+    requires accepted { IsAccepted fixes.bytes.now }
+    requires own { FixesOf fixes fixes.bytes.now }
+    ensures { placed result ≡ place_answer fixes.entry.bytes.now second.0 thousandths }
 {
-    if 999 < thousandths {
-        return Placed::Refused(11);
+    if thousandths > 999 {
+        return Err(Refusal::BadThousandths);
     }
-    let n = format::count_at(b);
-    let first = format::fix_at(b, kind, 0);
-    let last = format::fix_at(b, kind, n - 1);
-    let u = instant_of(second, thousandths);
-    let start = instant_of(first.t, 0);
-    if u.0 < start.0 {
-        return Placed::Refused(12);
+    let u = Instant::new(second, thousandths);
+    let start = Instant::new(fixes.at(0).t, 0);
+    let end = Instant::new(fixes.at(fixes.count - 1).t, 0);
+    if u < start || end < u {
+        return Err(Refusal::BadMoment);
     }
-    let end = instant_of(last.t, 0);
-    if end.0 < u.0 {
-        return Placed::Refused(12);
-    }
-    place_on(b, kind, n, u)
+    place_on(fixes, u)
 }
 
 // Where the trail of a record is at a moment: a second and so many thousandths.
-pub fn place(b: &[u8], second: Seconds, thousandths: u16) -> Placed
+pub fn place(b: &[u8], second: Seconds, thousandths: u16) -> Result<Spot, Refusal>
     ensures { placed result ≡ place_answer b.now second.0 thousandths }
 {
-    let v = record::check(b);
-    match v {
-        Checked::Refused(k) => Placed::Refused(k),
-        Checked::Accepted => place_accepted(b, format::kind_at(b), second, thousandths),
-    }
+    let fixes = record::accepted(b)?;
+    place_accepted(fixes, second, thousandths)
 }

@@ -3,4 +3,4 @@
 
 mod agings;
 
-pub use agings::{Ran, call_all, crosses_after, near_after};
+pub use agings::{call_all, crosses_after, near_after};

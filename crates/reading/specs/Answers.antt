@@ -1,27 +1,23 @@
--- What the enums of the code say, as the paper's numbers and values.
-use Rattle.std.proofs.Math.Option.{Option, some, none}
-use Rattle.std.specs.Prelude.{ℕ}
+-- What the code answers, as the paper's numbers and values.
+use Rattle.std.specs.Prelude as std
+use Rattle.std.specs.Prelude.{ℕ, Result}
+use Rattle.std.proofs.Math.Option.{Option}
+use Rattle.distance.specs.declared.Fix as code
 use Rattle.distance.specs.Fix.{Fix, fix_of}
+use Rattle.distance.specs.Options.{option_by}
 use Rattle.format.specs.Kinds.{units}
-use Rattle.record.specs.Answers.{Answer, gives, turns_away}
-use Rattle.reading.specs.declared.AllRead.{AllRead}
-use Rattle.reading.specs.declared.AllRead.TheVariants as ReadAll
-use Rattle.reading.specs.declared.InUnit.{InUnit}
-use Rattle.reading.specs.declared.InUnit.TheVariants as Units
-use Rattle.reading.specs.declared.Step.{Step}
-use Rattle.reading.specs.declared.Step.TheVariants.{Found, NoneLeft}
+use Rattle.format.specs.declared.Unit.{Unit}
+use Rattle.record.specs.declared.refusal.Refusal.{Refusal}
+use Rattle.record.specs.Answers.{Answer, answer_by}
 
 -- The fix that a reader yielded, or none.
-abbrev pub found : Step → Option Fix
-found (Found f) = some (fix_of f)
-found NoneLeft = none
+abbrev pub found : std.Option code.Fix → Option Fix
+found = option_by fix_of
 
 -- What the reader of all fixes answered: the record's count, or the refusal.
-abbrev pub read_count : AllRead → Answer ℕ
-read_count (ReadAll.Count n) = gives n
-read_count (ReadAll.Refused k) = turns_away k
+abbrev pub read_count : Result ℕ Refusal → Answer ℕ
+read_count = answer_by (λ (n : ℕ). n)
 
 -- The unit of the fixes that a reader yields, or the refusal.
-abbrev pub unit_said : InUnit → Answer ℕ
-unit_said (Units.In u) = gives (units u)
-unit_said (Units.Refused k) = turns_away k
+abbrev pub unit_said : Result Unit Refusal → Answer ℕ
+unit_said = answer_by units

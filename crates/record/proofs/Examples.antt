@@ -1,6 +1,6 @@
 -- THE CHECKS IN NUMBERS. Bytes, written out, and what document 01 and document 02's items 3, 5, 6 and 8 say of them: the definitions and the code cannot be changed
 -- together without these rows. Each line is computed.
-use Rattle.std.specs.Prelude.{refl, List, [], ◌∷◌, map, Bool, true, false, ℕ, ℤ, pos}
+use Rattle.std.specs.Prelude.{refl, List, [], ◌∷◌, map, Bool, true, false, ℕ, ◌+◌, ℤ, pos, Result, Ok, Err}
 use Rattle.std.proofs.Math.Option.{Option, some, none}
 use Rattle.std.proofs.Common.{arith}
 use Rattle.distance.proofs.Examples.{Computes, minus}
@@ -19,8 +19,11 @@ use Rattle.record.specs.Checks.{Row, Report, anchor_refusal, first, sentence, so
 use Rattle.record.specs.Checks.{Given, nothing, number, Operation, checks, refusal_of}
 use Rattle.record.specs.Checks.{reading, writing, aging, aging_by_days, placing, crossing, loading, approaching}
 use Rattle.record.specs.Checks.{anchoring, writing_dearest}
-use Rattle.record.specs.Answers.{gives, turns_away, answer, or_else, unless, refused}
-use Rattle.record.specs.declared.Checked.TheVariants.{Accepted, Refused}
+use Rattle.record.specs.Answers.{gives, turns_away, answer, or_else, unless, number_of, answer_by, refused}
+use Rattle.record.specs.declared.refusal.Refusal.{Refusal}
+use Rattle.record.specs.declared.refusal.Refusal.TheVariants.{FewBytes, OtherKind, BadCount, BadLength, ShortRecord, BadMark, Misplaced, Unordered, LongSpan}
+use Rattle.record.specs.declared.refusal.Refusal.TheVariants.{HighTolerance, BadThousandths, BadMoment, BadWindow, BadBox, ShortOutput, BadPoint}
+use Rattle.record.specs.declared.refusal.Refusal.TheVariants.{BadReading, BadState, BadNewPlace, BadSilence, MomentInSilence, BadRowCount, BadRows}
 use Rattle.record.specs.Moved.{Movable}
 use Rattle.record.specs.Tenfold.{tenfold_mark, tenfold_record, Tenfold}
 use Rattle.record.proofs.Laws.Tenfold.{tenfold_never, tenfold_marked}
@@ -430,14 +433,44 @@ pub operations_computed : Computes numbers
     ∷ [])
 operations_computed = refl
 
--- ---- WHAT AN ANSWER SAYS: of the code's enum the refusal's number, or none; what is given, or the number "and nothing
+-- ---- THE REFUSALS OF THE CODE, and their numbers.
+pub refusals_numbered :
+    Computes number_of (
+    (FewBytes, 1)
+    ∷ (OtherKind, 2)
+    ∷ (BadCount, 3)
+    ∷ (BadLength, 4)
+    ∷ (ShortRecord, 5)
+    ∷ (BadMark, 6)
+    ∷ (Misplaced, 7)
+    ∷ (Unordered, 8)
+    ∷ (LongSpan, 9)
+    ∷ (HighTolerance, 10)
+    ∷ (BadThousandths, 11)
+    ∷ (BadMoment, 12)
+    ∷ (BadWindow, 13)
+    ∷ (BadBox, 14)
+    ∷ (ShortOutput, 15)
+    ∷ (BadPoint, 16)
+    ∷ (BadReading, 17)
+    ∷ (BadState, 18)
+    ∷ (BadNewPlace, 19)
+    ∷ (BadSilence, 20)
+    ∷ (MomentInSilence, 21)
+    ∷ (BadRowCount, 22)
+    ∷ (BadRows, 23)
+    ∷ [])
+refusals_numbered = refl
+
+-- ---- WHAT AN ANSWER SAYS: of the code's answer the refusal's number, or none; what is given, or the number "and nothing
 -- more"; a buffer afterwards, as it was on a refusal
 pub answers_computed :
-    Computes refused ((Accepted, none) ∷ (Refused 7, some 7) ∷ [])
+    Computes (λ (r : Result ℕ Refusal). refused r) ((Ok 5, none) ∷ (Err Misplaced, some 7) ∷ [])
+    × Computes (answer_by (λ (n : ℕ). n + 1)) ((Ok 5, gives 6) ∷ (Err Misplaced, turns_away 7) ∷ [])
     × Computes (λ (r : Option ℕ). answer {A = ℕ} r 5) ((none, gives 5) ∷ (some 7, turns_away 7) ∷ [])
     × Computes (λ (r : Option ℕ). unless {A = ℕ} r 5 6) ((none, 6) ∷ (some 7, 5) ∷ [])
     × Computes (λ (r : Option ℕ). or_else {A = ℕ} r (some 6)) ((none, some 6) ∷ (some 7, some 7) ∷ [])
-answers_computed = (refl, refl, refl, refl)
+answers_computed = (refl, refl, refl, refl, refl)
 
 -- ---- AN ANCHOR'S READINGS, in sixteenths, and which refusal they get. An absolute place, the state it is given having no place and its flag off; and a step, from a
 -- state with its flag on.

@@ -10,3 +10,4 @@ pub mod Tenfold
 pub mod Trail
 pub mod First
 pub mod Scan
+pub mod Answers

@@ -7,7 +7,9 @@ use Rattle.distance.specs.Fix.{Fix, Bounded}
 use Rattle.distance.specs.Laws.All.{All}
 use Rattle.format.specs.declared.Kind.{Kind as CodeKind}
 use Rattle.format.specs.declared.Kind.TheVariants.{MillimetreTrail}
+use Rattle.format.specs.declared.fixes.Fixes.{Fixes}
 use Rattle.format.specs.Bytes.{InBytes}
+use Rattle.format.specs.Fixes.{nth}
 use Rattle.format.specs.Kinds.{Kind, layout}
 use Rattle.format.specs.Format.{kind_of, never, record_length, HoldsLongest, each, fix_at, fixes, count_field, mark_field, record_bytes}
 use Rattle.format.proofs.Laws.Kinds.{is_kind, of_code, kind_of_is, longer, longest}
@@ -18,7 +20,9 @@ use Rattle.record.specs.Answers.{Answer, gives, turns_away, answer, unless}
 use Rattle.record.specs.Checks.{IsAccepted, read_refusal}
 use Rattle.record.proofs.Laws.Accepted.{accepted_good, good_fixes, places_good}
 use Rattle.record.proofs.Laws.First.{some_none, gives_no_refusal}
-use Rattle.record.specs.Laws.Trail.{Lent}
+use Rattle.record.specs.Laws.Trail.{Lent, FixesOf}
+use Rattle.record.proofs.Laws.Trail.{lent}
+use Rattle.record.proofs.Laws.Silence.{fix_heard}
 use Rattle.writing.specs.Writing.{asked_to_write, write_refusal, Writes}
 use Rattle.writing.proofs.Laws.Writing.{writes_none}
 use Rattle.rewrite.specs.Anew.{refused_or, anew_answer, anew, WrittenAnew}
@@ -30,7 +34,29 @@ module _ {A : Type 0} (says_fix : A → Fix) where
   list_more (g ∷ l) zero f h = refl
   list_more (g ∷ l) (suc k) f h = ap (λ (m : List Fix). says_fix g ∷ m) (list_more l k f (omega arith))
 
-  -- its first k entries are the first k fixes of the bytes
+  -- its first k entries are the first k fixes of the bytes, and it has room for all n
+  pub record Filled (K : Kind) (b : List ℕ) (n k : ℕ) (l : List A) : Type 0 where
+    pub within : k ≤ n
+    pub room : n ≤ length l
+    pub holds : map says_fix (take k l) ≡ each (fix_at K b) 0 k
+
+  module _ (K : Kind) (b : List ℕ) (n : ℕ) where
+    pub filled_none : (l : List A) → n ≤ length l → Filled K b n 0 l
+    unfolding each
+    filled_none l room = record { within = omega arith; room = room; holds = refl }
+
+    pub filled_more : (k : ℕ) (l : List A) (f : A) → Filled K b n k l → k < n → says_fix f ≡ fix_at K b k → Filled K b n (k + 1) (set l k f)
+    filled_more k l f h less e = record {
+      within = omega (arith, less);
+      room = rw (length-set l k f) h.room;
+      holds = let z : 0 + k ≡ k = omega arith in rw (add-one, each_more (fix_at K b) 0 k, z, ← e, ← h.holds) (list_more l k f (omega (arith, h.room, less)));
+    }
+
+    -- the whole of it
+    pub filled_all : (k : ℕ) (l : List A) → Filled K b n k l → n ≤ k → map says_fix (take n l) ≡ each (fix_at K b) 0 n
+    filled_all k l h end = let e : n ≡ k = omega (arith, h.within, end) in rw e h.holds
+
+  -- the same of the list of 4,096 of lent bytes
   pub record Listed (K : Kind) (b : List ℕ) (n k : ℕ) (l : List A) : Type 0 where
     pub lent : Lent K b n
     pub within : k ≤ n
@@ -65,6 +91,21 @@ within_bytes κ b n k {f} e h less =
     let g : Bounded (layout κ).limit f = rw e (all_at (fix_at (layout κ) b) n k h less) in
     (bounded_in_bytes (layout κ) (is_kind κ) f.x g.x_low g.x_high, bounded_in_bytes (layout κ) (is_kind κ) f.y g.y_low g.y_high)
 
+-- and a kind with no byte for silence says none, so a struct of its list can say the fix
+pub listable : (κ : CodeKind) (b : List ℕ) (n k : ℕ) {f : Fix} → f ≡ fix_at (layout κ) b k → All (Bounded (layout κ).limit) (each (fix_at (layout κ) b) 0 n) → k < n
+    → InBytes (layout κ).width f.x × InBytes (layout κ).width f.y × ((layout κ).silence_width ≡ 0 → f.silence ≡ 0)
+listable κ b n k e h less =
+    let in_bytes = within_bytes κ b n k e h less in
+    (in_bytes.0, in_bytes.1, λ z. ap (λ (f : Fix). f.silence) e ∙ fix_heard (layout κ) b k z)
+
+-- ---- the fixes of lent bytes that are accepted
+module _ (s : Fixes) (b : List ℕ) (a : IsAccepted b) (is : FixesOf s b) where
+  pub accepted_lent : Lent (layout s.kind) s.bytes.now s.count
+  accepted_lent = rw is.bytes_are (lent a is.kind_is is.count_is)
+
+  pub accepted_bounded : All (Bounded (layout s.kind).limit) (each (nth s) 0 s.count)
+  accepted_bounded = rw is.bytes_are (bounded_fixes a is.kind_is is.count_is)
+
 -- ---- what the writer says of the fixes, said of the record
 -- an accepted record's fixes pass the writer's checks
 writes_accepted : (b out : List ℕ) → HoldsLongest out → IsAccepted b → write_refusal (kind_of b) (fixes b) out ≡ none
@@ -87,6 +128,12 @@ anew_written b out K n m a l room accepted k counted e w =
     let all : m ≡ fixes b = e ∙ rw (k, counted) refl in
     let s = rw (k, all) at w in
     (s.0 ∙ rw h refl, s.1 ∙ rw h refl, λ _. s.2 (writes_accepted b out room accepted))
+
+-- .. said of the fixes that lent bytes have
+pub fixes_anew : (s : Fixes) (κ : CodeKind) (b out : List ℕ) (a : Answer ℕ) (l : List ℕ) → HoldsLongest out → IsAccepted b → FixesOf s b → s.kind ≡ κ → Writes (layout κ) (each (nth s) 0 s.count) out a l → WrittenAnew b out a l
+fixes_anew s κ b out a l room accepted is kind w =
+    let k : layout κ ≡ kind_of b = ap layout (sym kind) ∙ is.kind_is in
+    anew_written b out (layout κ) s.count (each (nth s) 0 s.count) a l room accepted k is.count_is (rw (kind, is.bytes_are) refl) w
 
 -- the record that it tells of lies in the output
 pub answer_within : (b out l : List ℕ) (n : ℕ) → gives n ≡ anew_answer b out → l ≡ anew b out → n ≤ length l

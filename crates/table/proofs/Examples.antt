@@ -1,6 +1,6 @@
 -- TABLES IN NUMBERS. Rows, written out, and what document 02's item 6 says of them: the definitions and the code cannot be changed together without these rows.
 -- Each line is computed.
-use Rattle.std.specs.Prelude.{◌≡◌, refl, List, [], ◌∷◌, ◌++◌, ℕ, zero, suc, ◌<◌, replicate}
+use Rattle.std.specs.Prelude.{◌≡◌, refl, List, [], ◌∷◌, ◌++◌, ℕ, zero, suc, ◌<◌, replicate, Ok, Err, Some, None}
 use Rattle.std.proofs.Math.Option.{some, none}
 use Rattle.std.proofs.Common.{arith}
 use Rattle.distance.proofs.Examples.{Computes}
@@ -10,7 +10,7 @@ use Rattle.record.specs.Checks.{Row, first, sentence, some_bad_row, load_refusal
 use Rattle.record.specs.Answers.{gives, turns_away}
 use Rattle.record.proofs.Examples.{row}
 use Rattle.table.specs.Answers.{table_of, on_day}
-use Rattle.table.specs.declared.OnDay.TheVariants.{NoTolerance, At, Refused}
+use Rattle.record.specs.declared.refusal.Refusal.TheVariants.{BadRowCount}
 use Rattle.table.proofs.Laws.Lent.{Held}
 use Rattle.table.specs.declared.Table.{Table}
 use Rattle.table.specs.declared.Row.{Row as RowStruct}
@@ -72,10 +72,10 @@ pub numbers_refused : Computes (λ (l : List ℕ). load_refusal (table_at l 0)) 
 unfolding first sentence some_bad_row each
 numbers_refused = refl
 
--- ---- what the code's enum says of a day
+-- ---- what the code's answer says of a day
 pub answers_computed :
     Computes on_day
-    ((NoTolerance, gives none) ∷ (At (record { 0 = 25 }), gives (some 25)) ∷ (Refused 22, turns_away 22) ∷ [])
+    ((Ok None, gives none) ∷ (Ok (Some (record { 0 = 25 })), gives (some 25)) ∷ (Err BadRowCount, turns_away 22) ∷ [])
 answers_computed = refl
 
 -- .. and what a table is asked for one: its refusal first

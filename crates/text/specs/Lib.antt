@@ -4,3 +4,4 @@ pub mod Text
 pub mod Examples
 -- and what engineers prove of it:
 pub mod Laws
+pub mod Listing

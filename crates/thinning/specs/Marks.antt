@@ -1,6 +1,6 @@
 -- KEEP MARKS, as the code thins by them: "The call works with 4,096 keep marks, cleared before each thinning."
 -- The fixes stand at positions from 0, f k at position k. That such marks say what thinning keeps is shown in Laws/Marks.antt.
-use Rattle.std.specs.Prelude.{◌≡◌, Bool, true, false, cond, ◌⊎◌, List, [], ◌∷◌, ℕ, suc, ◌+◌, ◌-◌, ◌<◌, ◌≤◌, leb, length, get_or, set}
+use Rattle.std.specs.Prelude.{◌≡◌, Bool, true, false, Option, Some, None, cond, ◌⊎◌, List, [], ◌∷◌, ℕ, suc, ◌+◌, ◌-◌, ◌<◌, ◌≤◌, leb, length, get_or, set}
 use Rattle.distance.specs.Fix.{Fix}
 use Rattle.format.specs.Format.{each}
 use Rattle.thinning.specs.Thinning.{Thinned, together, thin, thin_stretches}
@@ -42,6 +42,11 @@ pub record Judged {A : Type 0} (far : (i m j : A) → ℕ) (bound : (e : ℕ) (i
   pub measure : ℕ
   pub furthest : Furthest (λ x. far (f lo) (f x) (f hi)) lo hi m measure
   pub tested : within ≡ leb measure (bound e (f lo) (f hi))
+
+-- Where such a span is split: at that position, or nowhere.
+abbrev pub SplitJudged : {A : Type 0} (far : (i m j : A) → ℕ) (bound : (e : ℕ) (i j : A) → ℕ) (f : ℕ → A) (e lo hi : ℕ) → Option ℕ → Type 0
+SplitJudged far bound f e lo hi None = (m : ℕ) × Judged far bound f e lo hi m true
+SplitJudged far bound f e lo hi (Some m) = Judged far bound f e lo hi m false
 
 -- Thinning of the span from position lo to position hi makes one list of marks of another, and counts c: a case for each way out of the function.
 module _ {A : Type 0} (far : (i m j : A) → ℕ) (bound : (e : ℕ) (i j : A) → ℕ) (f : ℕ → A) (e : ℕ) where

@@ -1,18 +1,15 @@
 -- The program's agings are those of the worked rows: what its loop answers and leaves is what `aged_all` of the questions layer's specs/Worked.antt gives.
--- `declared.Aged` is the enum Aged of the thinning layer's code, and `TheVariants` its cases.
-use Rattle.std.specs.Prelude.{◌≡◌, refl, List, ℕ, suc, ◌+◌, ◌<◌, ◌≤◌, length, drop, get_or}
+use Rattle.std.specs.Prelude.{Result, Ok, ◌≡◌, refl, List, ℕ, suc, ◌+◌, ◌<◌, ◌≤◌, length, drop, get_or}
 use Rattle.std.proofs.Common.{sym, ◌∙◌, ap, add-one, arith, drop_of_length-le, drop-cons}
 use Rattle.format.specs.Format.{fixes, mark_field}
-use Rattle.record.specs.Answers.{Answer, gives, turns_away}
-use Rattle.aging.specs.declared.Aged.{Aged}
-use Rattle.aging.specs.declared.Aged.TheVariants.{Count, Refused}
+use Rattle.record.specs.Answers.{Answer, gives, turns_away, answer_by}
+use Rattle.record.specs.declared.refusal.Refusal.{Refusal}
 use Rattle.aging.specs.Aging.{by_tolerance, left_by, answered}
 use Rattle.questions.specs.Worked.{Left, unless_refused, aged_all}
 
 -- What agings answered, with what they left of the buffer.
-abbrev pub leaving : Aged → List ℕ → Answer Left
-leaving (Count c) b = gives (record { kept = fixes b; count = c; mark = mark_field b })
-leaving (Refused k) b = turns_away k
+abbrev pub leaving : Result ℕ Refusal → List ℕ → Answer Left
+leaving said b = answer_by (λ (c : ℕ). record { kept = fixes b; count = c; mark = mark_field b }) said
 
 -- After the first i agings of a list, with the buffer and the count as they are then, the rest gives what the whole list gives.
 pub record Going (b₀ es b : List ℕ) (count i : ℕ) : Type 0 where
@@ -44,5 +41,5 @@ stopped {b₀} {es} {b} {count} {i} k g h a =
     let f : ℕ → Answer Left = λ n. aged_all (left_by b (by_tolerance (get_or es i 0))) n (drop (suc i) es) in
     sym (next b es count i h ∙ ap (λ r. unless_refused r f) a) ∙ g.to_do
 
-pub ended : {b₀ es b : List ℕ} {count i : ℕ} → Going b₀ es b count i → length es ≤ i → leaving (Count count) b ≡ aged_all b₀ 0 es
+pub ended : {b₀ es b : List ℕ} {count i : ℕ} → Going b₀ es b count i → length es ≤ i → leaving (Ok count) b ≡ aged_all b₀ 0 es
 ended {b₀} {es} {b} {count} {i} g h = sym (ap (aged_all b count) (drop_of_length-le es h)) ∙ g.to_do

@@ -1,14 +1,14 @@
 // Document 02, item 5: trails with silences, in centimetres.
-use crate::{aged, begin, box_from, crossed, placed};
+use crate::{aged, begin, box_from, crossed, placed, record_with};
 use distance::{Coordinate, Fix, Seconds, Silence};
 use format::Kind;
-use std::io::{Result, Write};
+use printing::{Checked, Written};
+use std::io;
+use std::io::Write;
 
 // A trail as its record, of kind 3.
 fn record_of(ts: &[u32], xs: &[i32], ys: &[i32], silences: &[u8]) -> [u8; 64] {
-    let mut bytes = [0u8; 64];
-    writing::write(Kind::SilenceTrail, ts, xs, ys, silences, &mut bytes);
-    bytes
+    record_with(Kind::SilenceTrail, ts, xs, ys, silences)
 }
 
 // Trails k and l with silence after their first fix.
@@ -36,26 +36,23 @@ fn record_saying(seconds: u32, first: u8, last: u8) -> [u8; 64] {
 }
 
 // What the writer says of such fixes, and the reader of their record.
-fn said<W: Write>(out: &mut W, seconds: u32, first: u8, last: u8) -> Result<()> {
+fn said<W: Write>(out: &mut W, seconds: u32, first: u8, last: u8) -> io::Result<()> {
     let bytes = record_saying(seconds, first, last);
-    begin(out, b"silences", &bytes)?;
-    printing::number(out, first as u64)?;
-    printing::word(out, b" and ")?;
-    printing::number(out, last as u64)?;
-    printing::word(out, b", writer and reader | ")?;
     let mut output = [0u8; 64];
-    let w = writing::write(
+    let written = Written(writing::write(
         Kind::SilenceTrail,
         &[0, seconds],
         &[0, 0],
         &[0, 0],
         &[first, last],
         &mut output,
-    );
-    printing::written(out, w)?;
-    printing::word(out, b" and ")?;
-    printing::checked(out, record::check(&bytes))?;
-    printing::word(out, b"\n")
+    ));
+    let checked = Checked(record::check(&bytes));
+    begin(out, "silences", &bytes)?;
+    writeln!(
+        out,
+        "{first} and {last}, writer and reader | {written} and {checked}"
+    )
 }
 
 // Two straight lines with a silence between them.
@@ -74,21 +71,21 @@ fn trail_h(silences: &[u8]) -> [u8; 64] {
 }
 
 // The moments and the crossings of a silent leg.
-fn asked<W: Write>(out: &mut W) -> Result<()> {
-    placed(out, b"k", silent_k(), 1, 0)?;
-    placed(out, b"k", silent_k(), 0, 0)?;
-    placed(out, b"k", silent_k(), 10, 0)?;
-    crossed(out, b"l", silent_l(), box_from(33, 40), 0, 10)?;
-    crossed(out, b"l", silent_l(), box_from(0, 40), 0, 10)?;
-    crossed(out, b"l", silent_l(), box_from(33, 100), 0, 10)?;
-    crossed(out, b"l", silent_l(), box_from(0, 100), 1, 9)
+fn asked<W: Write>(out: &mut W) -> io::Result<()> {
+    placed(out, "k", silent_k(), 1, 0)?;
+    placed(out, "k", silent_k(), 0, 0)?;
+    placed(out, "k", silent_k(), 10, 0)?;
+    crossed(out, "l", silent_l(), box_from(33, 40), 0, 10)?;
+    crossed(out, "l", silent_l(), box_from(0, 40), 0, 10)?;
+    crossed(out, "l", silent_l(), box_from(33, 100), 0, 10)?;
+    crossed(out, "l", silent_l(), box_from(0, 100), 1, 9)
 }
 
-pub(crate) fn rows<W: Write>(out: &mut W) -> Result<()> {
-    aged(out, b"parted", parted(), &[0])?;
-    aged(out, b"parted", parted(), &[32000])?;
-    aged(out, b"h parted", trail_h(&[0, 1, 0, 0]), &[25, 12])?;
-    aged(out, b"h", trail_h(&[0, 0, 0, 0]), &[25, 12])?;
+pub(crate) fn rows<W: Write>(out: &mut W) -> io::Result<()> {
+    aged(out, "parted", parted(), &[0])?;
+    aged(out, "parted", parted(), &[32000])?;
+    aged(out, "h parted", trail_h(&[0, 1, 0, 0]), &[25, 12])?;
+    aged(out, "h", trail_h(&[0, 0, 0, 0]), &[25, 12])?;
     asked(out)?;
     said(out, 1, 2, 0)?;
     said(out, 1, 0, 1)?;

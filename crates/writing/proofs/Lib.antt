@@ -1,2 +1,1 @@
-pub mod LentList
 pub mod Laws

@@ -1,10 +1,8 @@
--- What the enums of the code say, as the paper's numbers and values.
-use Rattle.std.specs.Prelude.{ℕ}
-use Rattle.writing.specs.declared.Written.{Written}
-use Rattle.writing.specs.declared.Written.TheVariants as Write
-use Rattle.record.specs.Answers.{Answer, gives, turns_away}
+-- What the results of the code say, as the paper's numbers and values.
+use Rattle.std.specs.Prelude.{ℕ, Result}
+use Rattle.record.specs.declared.refusal.Refusal.{Refusal}
+use Rattle.record.specs.Answers.{Answer, answer_by}
 
 -- What the writer answered: the record's length, or the refusal.
-abbrev pub wrote : Written → Answer ℕ
-wrote (Write.Length n) = gives n
-wrote (Write.Refused k) = turns_away k
+abbrev pub wrote : Result ℕ Refusal → Answer ℕ
+wrote = answer_by (λ (n : ℕ). n)

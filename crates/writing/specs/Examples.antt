@@ -1,6 +1,6 @@
 -- THE WRITER IN NUMBERS. Fixes, the length of an output, and what document 01 and document 02's items 5 and 8 say of them: the definitions and the code cannot be
 -- changed together without these rows. Each line is computed.
-use Rattle.std.specs.Prelude.{◌≡◌, refl, List, [], ◌∷◌, ◌++◌, ℕ, take, ℤ, pos}
+use Rattle.std.specs.Prelude.{◌≡◌, refl, List, [], ◌∷◌, ◌++◌, ℕ, take, ℤ, pos, Ok, Err}
 use Rattle.std.proofs.Math.Option.{Option, some, none}
 use Rattle.distance.proofs.Examples.{Computes, minus}
 use Rattle.distance.specs.Fix.{Fix, last_of}
@@ -12,7 +12,7 @@ use Rattle.record.specs.Checks.{first, sentence, some_outside, some_early_after,
 use Rattle.record.specs.Answers.{gives, turns_away}
 use Rattle.writing.specs.Writing.{asked_to_write, write_answer, written, in_centimetres, in_millimetres, with_silences, columns}
 use Rattle.writing.specs.Answers.{wrote}
-use Rattle.writing.specs.declared.Written.TheVariants.{Length, Refused}
+use Rattle.record.specs.declared.refusal.Refusal.TheVariants.{ShortOutput}
 
 abbrev pub a_fix : (t : ℕ) (x y : ℤ) → Fix
 a_fix t x y = record { t = t; x = x; y = y; silence = 0 }
@@ -151,7 +151,7 @@ pub columns_computed : (columns_of silence_trail ≡ record { t = 5; x = pos 1; 
 unfolding each
 columns_computed = (refl, refl)
 
--- ---- WHAT THE STRUCTS AND THE ENUM OF THE CODE SAY: (5, −1, 2) in each struct, and an answer
+-- ---- WHAT THE STRUCTS AND THE RESULT OF THE CODE SAY: (5, −1, 2) in each struct, and an answer
 pub structs_computed :
     (in_centimetres (record { t = record { 0 = 5 }; x = record { 0 = minus 1 }; y = record { 0 = pos 2 } })
     ≡ record { t = 5; x = minus 1; y = pos 2; silence = 0 })
@@ -162,5 +162,5 @@ pub structs_computed :
     ≡ record { t = 5; x = minus 1; y = pos 2; silence = 1 })
 structs_computed = (refl, refl, refl)
 
-pub answers_computed : Computes wrote ((Length 18, gives 18) ∷ (Refused 15, turns_away 15) ∷ [])
+pub answers_computed : Computes wrote ((Ok 18, gives 18) ∷ (Err ShortOutput, turns_away 15) ∷ [])
 answers_computed = refl

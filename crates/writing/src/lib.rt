@@ -3,15 +3,12 @@
 #![tactic(auto)]
 
 mod columns;
-mod in_centimetres;
-mod in_millimetres;
-mod stage;
-mod with_silences;
+mod lent;
+mod list;
 
 ghost use Rattle.std.specs.Prelude.{◌≡◌, ◌≤◌, List, length};
 ghost use Rattle.std.proofs.Math.Option.{none};
 ghost use Rattle.distance.specs.Fix.{Fix as Plain};
-ghost use Rattle.format.specs.Bytes.{InBytes};
 ghost use Rattle.format.specs.Kinds.{layout};
 ghost use Rattle.format.specs.Format.{record_length};
 ghost use Rattle.record.specs.Checks.{sentence, first, fix_checks, refusal, writing};
@@ -21,12 +18,10 @@ ghost use Rattle.writing.specs.Answers.{wrote};
 ghost use Rattle.writing.specs.Laws.Writing.{Begun};
 
 pub use columns::write;
-use distance::{Coordinate, Seconds, Silence};
+use distance::{Seconds, Silence};
 use format::{Kind, put_head, record_length};
-pub use in_centimetres::write_centimetres;
-pub use in_millimetres::write_millimetres;
-use record::Checked;
-pub use with_silences::write_silences;
+pub use list::{ListedFix, write_centimetres, write_list, write_millimetres, write_silences};
+use record::Refusal;
 
 // A coordinate in centimetres, and a fix in them; in millimetres; and a fix in centimetres that says whether silence follows. A length in one unit can't stand in
 // the other's place.
@@ -58,54 +53,44 @@ pub struct SilenceFix {
     pub silence: Silence,
 }
 
-// What the writer answers.
-#[derive(Clone, Copy)]
-pub enum Written {
-    Length(u32),
-    Refused(u8),
-}
-
-// A coordinate in centimetres, of 16 bits, as the layers below have it.
-fn wider(c: Centimetres) -> Coordinate
-    ensures { (result.0 ≡ c.0) × InBytes 2 result.0 }
-{
-    Coordinate(c.0 as i32)
-}
-
 // The writer's checks 3, 7, 8, 9, 20 and 15, of a list of n fixes whose pass said `scanned` and an output of so many bytes. What the pass said is asked only of a
 // list that check 3 lets pass.
-fn write_says(kind: Kind, n: usize, scanned: Checked, output: usize) -> Checked
-    ensures { ((l : List Plain) → length l ≡ n → (1 ≤ n → n ≤ 4096 → refused scanned ≡ first (sentence (layout kind) (asked_to_write l output)) fix_checks) → refused result ≡ refusal (layout kind) writing (asked_to_write l output)) × (refused result ≡ none → (n ≤ 4096) × (record_length (layout kind) n ≤ output)) }
+fn write_says(
+    kind: Kind,
+    n: usize,
+    scanned: Result<(), Refusal>,
+    output: usize,
+) -> Result<(), Refusal>
+    ensures refusal { (l : List Plain) → length l ≡ n
+        → (1 ≤ n → n ≤ 4096 → refused scanned ≡ first (sentence (layout kind) (asked_to_write l output)) fix_checks)
+        → refused result ≡ refusal (layout kind) writing (asked_to_write l output) }
+    ensures few { refused result ≡ none → n ≤ 4096 }
+    ensures room { refused result ≡ none → record_length (layout kind) n ≤ output }
 {
-    if n == 0 {
-        return Checked::Refused(3);
+    if n == 0 || 4096 < n {
+        return Err(Refusal::BadCount);
     }
-    if 4096 < n {
-        return Checked::Refused(3);
+    scanned?;
+    if output < record_length(kind, n as u32) as usize {
+        return Err(Refusal::ShortOutput);
     }
-    match scanned {
-        Checked::Refused(k) => Checked::Refused(k),
-        Checked::Accepted => {
-            if output < record_length(kind, n as u32) as usize {
-                Checked::Refused(15)
-            } else {
-                Checked::Accepted
-            }
-        },
-    }
+    Ok(())
 }
 
 // How every writer begins: it makes its checks, and puts down the head of a record that was never thinned if none turns the list away. The answer is the writer's;
 // the fixes are put down after it.
-pub fn begin_record(kind: Kind, n: usize, scanned: Checked, out: &mut [u8]) -> Written
-    ensures { (l : List Plain) → length l ≡ n → (1 ≤ n → n ≤ 4096 → refused scanned ≡ first (sentence (layout kind) (asked_to_write l (length out.old))) fix_checks) → Begun (layout kind) l out.old (wrote result) out.new }
+pub fn begin_record(
+    kind: Kind,
+    n: usize,
+    scanned: Result<(), Refusal>,
+    out: &mut [u8],
+) -> Result<u32, Refusal>
+    ensures { (l : List Plain) → length l ≡ n
+        → (1 ≤ n → n ≤ 4096
+        → refused scanned ≡ first (sentence (layout kind) (asked_to_write l (length out.old))) fix_checks)
+        → Begun (layout kind) l out.old (wrote result) out.new }
 {
-    let v = write_says(kind, n, scanned, out.len());
-    match v {
-        Checked::Refused(k) => Written::Refused(k),
-        Checked::Accepted => {
-            put_head(out, kind, n as u32, 65535);
-            Written::Length(record_length(kind, n as u32))
-        },
-    }
+    write_says(kind, n, scanned, out.len())?;
+    put_head(out, kind, n as u32, 65535);
+    Ok(record_length(kind, n as u32))
 }

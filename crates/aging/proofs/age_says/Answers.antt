@@ -1,30 +1,24 @@
-use mathlib.Core.Path.{◌≡◌, sym, ◌∙◌, ap}
-use mathlib.Core.Option.{none}
+use mathlib.Core.Path.{◌≡◌, sym, ◌∙◌}
 use native.Mathlib.Omega.{arith}
 use Rattle.format.specs.Format.{kind_of}
-use Rattle.record.specs.Checks.{read_refusal}
-use Rattle.record.proofs.Laws.Head.{accepted_head}
-use Rattle.record.specs.Answers.{refused}
+use Rattle.record.proofs.Laws.Answers.{passed_on}
 use Rattle.aging.proofs.Laws.Aging.{age_reader, age_10, age_none}
 use Rattle.aging.proofs.age_says.Goals as goal
-use Rattle.aging.proofs.age_says.Goals.{After-top_of, In-Accepted}
-
--- in the second arm the record is accepted
-passed : (c : In-Accepted) → read_refusal c.args.b.now ≡ none
-passed c = sym c.check-v.ensures ∙ ap refused c.in-Accepted.is
-
-pub kind_at-requires : goal.kind_at-requires
-kind_at-requires c = (accepted_head c.args.b.now (passed c)).ten
+use Rattle.aging.proofs.age_says.Goals.{After-top_of}
 
 -- the greatest tolerance that the code compares with
 greatest : (c : After-top_of) → c.top_of.result ≡ (kind_of c.args.b.now).top
-greatest c = rw c.kind_at.ensures at c.top_of.ensures
+greatest c = rw c.in_ok-fixes.ensures.fixes.kind_is at c.top_of.ensures
 
-pub returns-in-Refused : goal.returns-in-Refused
-returns-in-Refused c = sym (age_reader c.args.b.now _ _ (sym c.check-v.ensures ∙ ap refused c.in-Refused.is))
+pub returns-in_err-fixes : goal.returns-in_err-fixes
+returns-in_err-fixes c = passed_on c.from_residual.result _ c.from_residual.ensures.1 ∙ sym (age_reader c.args.b.now _ _ (sym c.in_err-fixes.ensures.refusal))
 
-pub returns-then-top_of-e : goal.returns-then-top_of-e
-returns-then-top_of-e c = sym (age_10 c.args.b.now _ (passed (goal.at-returns-then-top_of-e c).In-Accepted) (omega (arith, greatest (goal.at-returns-then-top_of-e c).After-top_of, c.if-top_of-e.true)))
+pub returns-then-top_of-from : goal.returns-then-top_of-from
+returns-then-top_of-from c =
+    let top = greatest (goal.at-returns-then-top_of-from c).After-top_of in
+    sym (age_10 c.args.b.now _ (sym c.in_ok-fixes.ensures.refusal) (omega (arith, top, c.if-top_of-from.true)))
 
-pub returns-else-top_of-e : goal.returns-else-top_of-e
-returns-else-top_of-e c = sym (age_none c.args.b.now _ (passed (goal.at-returns-else-top_of-e c).In-Accepted) (omega (arith, greatest (goal.at-returns-else-top_of-e c).After-top_of, c.if-top_of-e.false)))
+pub returns : goal.returns
+returns c =
+    let top = greatest (goal.at-returns c).After-top_of in
+    sym (age_none c.args.b.now _ (sym c.in_ok-fixes.ensures.refusal) (omega (arith, top, c.if-top_of-from.false)))

@@ -1,12 +1,10 @@
 -- The claim about any list of readings.
-use Rattle.std.specs.Prelude.{◌≡◌, ℕ, suc, ◌+◌, ◌≤◌, Bool, true, false, cond, not, ◌||◌, List, [], ◌∷◌, ◌++◌, ℤ, ◌+ℤ◌, unsigned_abs, refl, Float}
+use Rattle.std.specs.Prelude.{◌≡◌, ℕ, ◌≤◌, Bool, true, false, cond, not, ◌||◌, List, [], ◌∷◌, ◌++◌, ℤ, ◌+ℤ◌, unsigned_abs, refl, Float, suc, ◌+◌}
 use Rattle.std.proofs.Common.{sym, ap, subst, ◌∙◌, true≢false, arith}
 use Rattle.std.proofs.Math.Option.{Option, some, none}
 use Rattle.std.specs.Float.{binary32}
 use Rattle.std.specs.Float.Ieee.{add}
 use Rattle.distance.specs.Integers.Tests.{neither}
-use Rattle.format.specs.Format.{each}
-use Rattle.format.proofs.Laws.Each.{each_more}
 use Rattle.record.specs.Checks.{InSixteenths, Report, lacks, uncounted, far, beyond, plus, moved_by, new_place, unready, anchor_refusal}
 use Rattle.record.specs.Answers.{unless}
 use Rattle.record.proofs.Laws.First.{some_none}
@@ -19,6 +17,8 @@ use Rattle.anchors.specs.Claim.{after_all, accepted, steps, total, AnchorClaim}
 use Rattle.anchors.proofs.Laws.Sixteenths.{is_sixteenths}
 use Rattle.anchors.proofs.Laws.Sum.{sum_exact}
 use Rattle.anchors.proofs.Laws.Reading.{refusal_is, part_of_sum}
+use Rattle.format.specs.Format.{each}
+use Rattle.format.proofs.Laws.Each.{each_more}
 
 -- ---- what an accepted reading has passed
 pub record Passes (r : Report) : Type 0 where

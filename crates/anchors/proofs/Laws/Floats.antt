@@ -1,13 +1,13 @@
 -- f32 arithmetic as counting needs it: equality by value, what an f32 holds, the tests at 2¹⁹, and products and casts that lose nothing.
-use Rattle.std.specs.Prelude.{◌≡◌, ℕ, zero, suc, ◌+◌, ◌-◌, ◌*◌, ◌/◌, ◌%◌, ◌^◌, ◌<◌, ◌≤◌, min, Bool, true, false, cond, not, ◌&&◌, ◌||◌, T, ltb, leb, ℤ, pos, negsuc, neg_ℤ, ◌==◌, ◌≢◌, nat_eq, nat_le, nat_lt, refl, Float}
-use Rattle.std.proofs.Common.{sym, ap, subst, ◌∙◌, arith, mul_assoc, mul_comm, mul_left_comm, mul_right_comm, mul-pos, one-mul, mul-one, zero-mul, lt_of_lt_of_le, not-le_of_lt, lt_of_not-le, le_of_suc-le-suc, mul-le-mul_right, mul-lt-mul_of_pos_right, div-add-mod', div-lt_iff_lt-mul, eq-eqb, ne_eqb, eqb-true, lt-ltb, le-leb, ltb-true, ltb-false, ltb→lt, leb→le, lit<, lit≤, shl_lt, pow-add, pow_pos, pow_mono}
+use Rattle.std.specs.Prelude.{◌≡◌, ℕ, zero, suc, ◌+◌, ◌-◌, ◌*◌, ◌/◌, ◌%◌, ◌^◌, ◌<◌, ◌≤◌, min, Bool, true, false, cond, ◌&&◌, ◌||◌, T, ltb, leb, ℤ, pos, negsuc, neg_ℤ, ◌==◌, ◌≢◌, nat_eq, nat_le, nat_lt, refl, Float, not}
+use Rattle.std.proofs.Common.{sym, ap, subst, ◌∙◌, arith, mul_assoc, mul_comm, mul_left_comm, mul-pos, one-mul, mul-one, zero-mul, lt_of_lt_of_le, not-le_of_lt, lt_of_not-le, le_of_suc-le-suc, div-add-mod', div-lt_iff_lt-mul, eq-eqb, ne_eqb, eqb-true, lt-ltb, le-leb, ltb-true, ltb-false, ltb→lt, leb→le, lit<, lit≤, shl_lt, pow-add, pow_pos, pow_mono, mul_right_comm, mul-le-mul_right, mul-lt-mul_of_pos_right}
 use Rattle.std.specs.Bool.{beq}
 use Rattle.std.proofs.Math.Bool.{and-false}
 use Rattle.std.proofs.Math.Nat.{mod-one, eq_of_mul-eq-mul_right}
 use Rattle.std.proofs.lemmas.Bool.{eqb-false, lt-leb}
 use Rattle.std.proofs.Math.Pow.{pow-lt}
 use Rattle.std.specs.Float.{nan, inf, fin, binary32}
-use Rattle.std.specs.Float.Ieee.{unlike, up, down, round, mul, neg, lt, le, eq, ne, level, fits, of_int, in_float, to_signed, of_bits}
+use Rattle.std.specs.Float.Ieee.{up, down, round, mul, neg, lt, le, eq, level, fits, of_int, in_float, to_signed, of_bits, unlike, ne}
 use Rattle.std.specs.Float.Ieee.Fits.{down_pos, and_l, and_r}
 use Rattle.std.specs.Float.Ieee.Exact.{HasValue, round_exact}
 use Rattle.std.specs.Float.Ieee.Nearest.{div_same}
@@ -194,6 +194,7 @@ times_sixteen true m e f h = rw (mul-one (down e)) (scaled_round true m e (fitte
 times_sixteen false m e f h = rw (mul-one (down e)) (scaled_round false m e (fitted false m e f).0 (fitted false m e f).1 h)
 
 -- ---- a float that is ±n/d, and n/d below 2²³: it is cut to a whole number as it stands
+-- such a float lies between −2⁶³ and 2⁶³, which 64 bits ask of one that is cut
 module _ (U E n d : ℕ) (pe : 0 < E) (pd : 0 < d) (is : U * d ≡ n * E) (h : n < 2 ^ 23 * d) where
   own_size : U < 2 ^ 23 * E
   own_size = lt_of_not-le (λ (g : 2 ^ 23 * E ≤ U). over g)
@@ -226,18 +227,25 @@ reaches_high (fin false m e) s n d p v h = rw (lt-ltb (m * up e * 1) (2 ^ 63 * d
 pub few_whole : (n d : ℕ) → 0 < d → n < 2 ^ 23 * d → n / d < 2 ^ 23
 few_whole n d p h = (div-lt_iff_lt-mul p).1 h
 
-pub cut_off : (x : Float) (s : Bool) (n d : ℕ) → 0 < d → HasValue x s n d → n < 2 ^ 23 * d → to_signed 63 x ≡ negative_if s (n / d)
+cut_to : (w : ℕ) → 2 ^ 23 ≤ 2 ^ w - 1 → (x : Float) (s : Bool) (n d : ℕ) → 0 < d → HasValue x s n d → n < 2 ^ 23 * d → to_signed w x ≡ negative_if s (n / d)
 unfolding to_signed
-cut_off nan s n d p v h = absurd v
-cut_off (inf t) s n d p v h = absurd v
-cut_off (fin t m e) s n d p v h = go t v.0 (m * up e / down e) (div_same (m * up e) (down e) n d (down_pos e) p v.1) (few_whole n d p h)
+cut_to w wide nan s n d p v h = absurd v
+cut_to w wide (inf t) s n d p v h = absurd v
+cut_to w wide (fin t m e) s n d p v h = go t v.0 (m * up e / down e) (div_same (m * up e) (down e) n d (down_pos e) p v.1) (few_whole n d p h)
   where
     unbounded : (q k : ℕ) → q < 2 ^ 23 → 2 ^ 23 ≤ k → min q k ≡ q
     unbounded q k h l = omega arith
 
-    go : (t : Bool) → t ≡ s → (q : ℕ) → q ≡ n / d → n / d < 2 ^ 23 → cond t (neg_ℤ (pos (min q (2 ^ 63)))) (pos (min q (2 ^ 63 - 1))) ≡ negative_if s (n / d)
-    go true e q k l = ap (λ (i : ℕ). neg_ℤ (pos i)) (unbounded q (2 ^ 63) (rw k l) (lit≤ tt) ∙ k) ∙ ap (λ (u : Bool). negative_if u (n / d)) e
-    go false e q k l = ap pos (unbounded q (2 ^ 63 - 1) (rw k l) (lit≤ tt) ∙ k) ∙ ap (λ (u : Bool). negative_if u (n / d)) e
+    go : (t : Bool) → t ≡ s → (q : ℕ) → q ≡ n / d → n / d < 2 ^ 23 → cond t (neg_ℤ (pos (min q (2 ^ w)))) (pos (min q (2 ^ w - 1))) ≡ negative_if s (n / d)
+    go true e q k l = ap (λ (i : ℕ). neg_ℤ (pos i)) (unbounded q (2 ^ w) (rw k l) (omega (arith, wide)) ∙ k) ∙ ap (λ (u : Bool). negative_if u (n / d)) e
+    go false e q k l = ap pos (unbounded q (2 ^ w - 1) (rw k l) wide ∙ k) ∙ ap (λ (u : Bool). negative_if u (n / d)) e
+
+-- to one of 64 bits, and to one of 32
+pub cut_off : (x : Float) (s : Bool) (n d : ℕ) → 0 < d → HasValue x s n d → n < 2 ^ 23 * d → to_signed 63 x ≡ negative_if s (n / d)
+cut_off = cut_to 63 (lit≤ tt)
+
+pub cut_short : (x : Float) (s : Bool) (n d : ℕ) → 0 < d → HasValue x s n d → n < 2 ^ 23 * d → to_signed 31 x ≡ negative_if s (n / d)
+cut_short = cut_to 31 (lit≤ tt)
 
 -- ---- a whole number below 2²³ as a float, whose 0 has no sign
 abbrev sign_of : Bool → ℕ → Bool

@@ -1,12 +1,14 @@
 -- WHAT A READING'S PROMISES GIVE, in whole numbers of sixteenths and without their names; what a list is, reading by reading; and what a float counts, in the kit's own
 -- words.
-use Rattle.std.specs.Prelude.{◌≡◌, refl, ◌↔◌, ◌⊎◌, Bool, true, false, cond, ℕ, suc, min, ◌≤◌, length, ℤ, pos, neg_ℤ, unsigned_abs, ◌+ℤ◌, Float}
+use Rattle.std.specs.Prelude.{◌≡◌, refl, ◌↔◌, ◌⊎◌, Bool, true, false, cond, ℕ, zero, suc, min, ◌≤◌, length, ℤ, pos, neg_ℤ, unsigned_abs, ◌+ℤ◌, Float}
 use Rattle.std.proofs.Common.{sym, ap, subst, ◌∙◌, ⊎_elim, inl, inr, arith, true≢false}
 use mathlib.Core.List.{List, [], ◌∷◌, ◌++◌, map, foldl}
 use Rattle.std.proofs.Math.Option.{Option, some, none}
 use Rattle.std.proofs.Math.Nat.{zero-min, min-zero}
 use Rattle.std.proofs.Math.Dec.{eqb-suc-zero}
+use Rattle.std.specs.Float.{nan}
 use Rattle.std.specs.Float.Ieee.Exact.{HasValue}
+use Rattle.std.specs.List.{zip, fold}
 use Rattle.distance.specs.Integers.Tests.{neither}
 use Rattle.format.specs.Format.{each}
 use Rattle.format.proofs.Laws.Each.{each_shift}
@@ -165,6 +167,19 @@ columns_give k x y ks xs ys = (
         rw (least (length ks) (length xs) (length ys))
         (ap (λ (l : List Reading). reading_of j x y ∷ l)
         (each_shift (column_reading (j ∷ ks) (x ∷ xs) (y ∷ ys)) (column_reading ks xs ys) 0 (min (length ks) (min (length xs) (length ys))) (λ i. refl)))
+
+-- .. and reading it is one fold over the three columns
+pub columns_folded : (s : State) (ks : List ℕ) (xs ys : List Float)
+    → fold (λ t p. state_after t (reading_of p.0.0 p.0.1 p.1)) s (zip (zip ks xs) ys) ≡ after_all s (column_readings ks xs ys)
+unfolding after_all
+columns_folded s [] xs ys = rw (columns_give 0 nan nan [] xs ys).2 refl
+columns_folded s (k ∷ ks) [] ys = rw (columns_give 0 nan nan (k ∷ ks) [] ys).3 refl
+columns_folded s (k ∷ ks) (x ∷ xs) [] = rw (columns_give 0 nan nan (k ∷ ks) (x ∷ xs) []).4 refl
+columns_folded s (k ∷ ks) (x ∷ xs) (y ∷ ys) = columns_folded (state_after s (reading_of k x y)) ks xs ys ∙ sym (ap (after_all s) (more k))
+  where
+    more : (k : ℕ) → column_readings (k ∷ ks) (x ∷ xs) (y ∷ ys) ≡ reading_of k x y ∷ column_readings ks xs ys
+    more zero = (columns_give 0 x y ks xs ys).0
+    more (suc k) = (columns_give k x y ks xs ys).1 ∙ rw (eqb-suc-zero k) refl
 
 -- ---- WHAT A FLOAT COUNTS, in the kit's own words: it has a sign and is |z|/16 in size, and with that sign |z| is z.
 pub is_sixteenths_exactly : (x : Float) (z : ℤ) → IsSixteenths x z

@@ -1,26 +1,30 @@
 -- The checks of a reading as the code makes them: over whole numbers of sixteenths, those that no place comes near counted alike.
-use Rattle.std.specs.Prelude.{◌≡◌, ℕ, ◌+◌, ◌≤◌, Bool, true, false, cond, ◌||◌, [], ◌∷◌, ℤ, pos, negsuc, ◌+ℤ◌, neg_ℤ, FitsSigned, nat_lt, unsigned_abs, refl, Float}
+use Rattle.std.specs.Prelude.{Option as Optional, None, Result, Err, IsErrAnd, ◌≡◌, ℕ, ◌+◌, ◌≤◌, Bool, true, false, cond, ◌||◌, [], ◌∷◌, ℤ, pos, negsuc, ◌+ℤ◌, neg_ℤ, nat_lt, unsigned_abs, refl, Float, FitsSigned}
 use Rattle.std.proofs.Common.{sym, ap, ◌∙◌, true≢false, arith, lt-ltb, ltb-true, ltb-false}
 use Rattle.std.proofs.Math.Option.{Option, some, none}
-use Rattle.std.specs.Int.{w32}
+use Rattle.std.specs.Option.{ok_or}
 use Rattle.distance.specs.Place.{Point, point_at}
 use Rattle.distance.specs.Rounding.{with_sign_of, rounded}
-use Rattle.distance.specs.Integers.Bounds.{Bound, ◌⊕◌, fits}
 use Rattle.distance.specs.Integers.Differences.{nat_abs_add, nat_abs_neg}
 use Rattle.distance.specs.Integers.Ring.{ring, quotes, lit, vars}
 use Rattle.distance.specs.Integers.Tests.{neither}
 use Rattle.record.specs.Checks.{Report, first, sentence, outside, lacks, uncounted, beyond, new_place, unready, anchor_refusal}
-use Rattle.record.specs.Answers.{turns_away, answer, unless}
+use Rattle.record.specs.declared.refusal.Refusal.{Refusal}
+use Rattle.record.specs.Answers.{Answer, turns_away, answer, answer_by, refused, number_of, unless}
+use Rattle.record.proofs.Laws.Answers.{turned_away as handed_on}
 use Rattle.record.proofs.Laws.First.{some_none, some_same, answer_same}
 use Rattle.record.proofs.Laws.Accepted.{outside_size, inside_bound}
-use Rattle.anchors.specs.Anchors.{sixteenths, report, new_state, rounded_place, anchor_answer, state_after}
+use Rattle.anchors.specs.Anchors.{sixteenths, report, rounded_place, anchor_answer, state_after, new_state}
 use Rattle.anchors.specs.declared.State.{State}
+use Rattle.anchors.specs.declared.Anchored.{Anchored}
 use Rattle.anchors.specs.declared.Reading.{Reading}
 use Rattle.anchors.specs.declared.Reading.TheVariants.{Absolute, Step}
-use Rattle.anchors.specs.declared.Anchored.{Anchored}
-use Rattle.anchors.specs.Answers.{answered, state_left}
 use Rattle.anchors.specs.Laws.Reading.{Addable, cap, capped, check_19, last_exact, moved, pair, rounded_from, within}
+use Rattle.std.specs.Int.{w32}
+use Rattle.distance.specs.Integers.Bounds.{Bound, ◌⊕◌, fits}
+use Rattle.anchors.specs.Answers.{answered, state_left}
 
+-- ---- a place within the hall and a step of at most 2²³ sixteenths have a sum that 32 bits hold
 pub record SumFits (a b : ℤ) : Type 0 where
   pub a32 : FitsSigned w32 a
   pub b32 : FitsSigned w32 b
@@ -189,11 +193,23 @@ absolute_found s x y P h = finds_absolute (sixteenths x) (sixteenths y) (sixteen
 pub step_found : (s : State) (x y : Float) (P d : Point) → pair (capped (sixteenths x)) (capped (sixteenths y)) ≡ some d → last_exact s ≡ some P → Finds (report s (Step x y)) (moved P d) × Addable P d
 step_found s x y P d h k = finds_step (sixteenths x) (sixteenths y) (sixteenths s.x) (sixteenths s.y) s.seen P d h k
 
+-- where a `?` meets nothing, the refusal that stands for it is handed on
+pub turned_to : {A B C : Type 0} (value : B → C) (o : Optional A) (k e : Refusal) (r : Result B Refusal)
+    → o ≡ None → ok_or o k ≡ Err e → IsErrAnd r (λ f. f ≡ e) → answer_by value r ≡ turns_away (number_of k)
+turned_to value o k e r n g h = handed_on value r e h ∙ ap turns_away (some_same (ap refused (sym g ∙ ap (λ u. ok_or u k) n)))
+
 -- ---- THE ANSWER and the state, from what is found
 module _ (s : State) (r : Reading) where
   pub refused_so : (k : ℕ) → anchor_refusal (report s r) ≡ some k → (turns_away k ≡ anchor_answer s r) × (s ≡ state_after s r)
   refused_so k h = rw h (refl, refl)
 
+  pub found_answer : (P : Point) (a : Answer Point) → Finds (report s r) P → a ≡ answer (check_19 P) (rounded_from P) → a ≡ anchor_answer s r
+  found_answer P a f h =
+      h
+      ∙ answer_same (check_19 P) (λ (k : check_19 P ≡ none). sym (f.place k))
+      ∙ ap (λ (o : Option ℕ). answer o (rounded_place (new_place (report s r)))) (sym f.refusal)
+
+  -- .. both at once
   pub found_so : (P : Point) (a : Anchored) → Finds (report s r) P → (answered a ≡ answer (check_19 P) (rounded_from P)) × (state_left a ≡ unless (check_19 P) s (new_state s r))
       → (answered a ≡ anchor_answer s r) × (state_left a ≡ state_after s r)
   found_so P a f h = (

@@ -1,35 +1,21 @@
-use Rattle.std.proofs.Common.{◌≡◌, ℕ, sym, refl, ap, ◌∙◌, arith}
-use Rattle.format.specs.Format.{each}
-use Rattle.anchors.specs.Claim.{after_all, column_reading}
+use Rattle.std.proofs.Common.{◌∙◌, rules}
+use Rattle.std.proofs.lemmas.Iterator.{YieldsList-from_slice, YieldsList-from_zip}
+use Rattle.std.proofs.lemmas.Iterator.Consumers.{YieldsList-at, fold_from_yields_List}
 use Rattle.anchors.specs.Anchors.{state_after}
-use Rattle.anchors.proofs.Laws.Claim.{claim, after_none, after_next}
+use Rattle.anchors.specs.Claim.{reading_of}
+use Rattle.anchors.proofs.Laws.Claim.{claim}
+use Rattle.anchors.proofs.Laws.Gives.{columns_folded}
 use Rattle.anchors.proofs.read_all.Goals as goal
 
-pub loop-i-init : goal.loop-i-init
-loop-i-init c =
-    let s = c.args in (
-      omega arith,
-      omega (arith, c.least-n.ensures),
-      omega (arith, c.least-n.ensures, c.least.ensures),
-      omega (arith, c.least-n.ensures, c.least.ensures),
-      sym (after_none s.s (column_reading s.step.now s.xs.now s.ys.now)),
-    )
+pub returns-clause-state : goal.returns-clause-state
+returns-clause-state c =
+    let a = c.args in
+    fold_from_yields_List _ (λ t p. state_after t (reading_of p.0.0 p.0.1 p.1)) a.s _ c.fold.ensures.ran
+    (YieldsList-from_zip
+    (YieldsList-at c.zip-2.ensures.first (YieldsList-from_zip (YieldsList-at c.zip.ensures.first (YieldsList-from_slice a.step.now c.iter.ensures.rest)) (YieldsList-from_slice a.xs.now cc)))
+    (YieldsList-from_slice a.ys.now cc))
+    (λ t x b q k. search rules)
+    ∙ columns_folded a.s a.step.now a.xs.now a.ys.now
 
-pub loop-i-preserved : goal.loop-i-preserved
-loop-i-preserved c =
-    let s = c.args in
-    let at = c.loop-i in (
-      omega arith,
-      at.invariant.1,
-      at.invariant.2,
-      at.invariant.3,
-      after_next s.s at.t _ (column_reading s.step.now s.xs.now s.ys.now) at.i at.invariant.4
-          (c.left-t.ensures ∙ c.read-a.ensures.1 ∙ ap (state_after at.t) c.reading_of.ensures),
-    )
-
-pub returns : goal.returns
-returns c =
-    let s = c.args in
-    let at = c.loop-i in
-    let all : at.i ≡ c.least-n.result = omega arith in
-    (at.invariant.4 ∙ ap (λ (n : ℕ). after_all s.s (each (column_reading s.step.now s.xs.now s.ys.now) 0 n)) (all ∙ c.least-n.ensures ∙ rw c.least.ensures refl), claim s.s _)
+pub returns-clause-claim : goal.returns-clause-claim
+returns-clause-claim c = claim c.args.s _

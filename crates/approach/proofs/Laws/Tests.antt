@@ -5,6 +5,7 @@ use Rattle.std.proofs.Math.Path.{refl, sym}
 use Rattle.std.proofs.Common.{◌∙◌, ap, true≢false, arith}
 use Rattle.std.proofs.Math.Option.{some, none}
 use Rattle.std.proofs.Math.IntN.{nat_abs}
+use Rattle.std.specs.Bool.{then_some}
 use Rattle.std.specs.Int.Signed.{le_z, yes_non_neg, pos-nat_abs}
 use borrow.Author.Tests.{le-leb, lt-leb}
 use Rattle.distance.specs.Fix.{Fix}
@@ -18,6 +19,7 @@ use Rattle.approach.specs.declared.Vector.{Vector}
 use Rattle.approach.specs.declared.Part.{Part}
 use Rattle.approach.specs.Approach.{toward, along, length_squared, dot, start_part, end_part, heard_part, silent_part, from_part, near_part}
 use Rattle.approach.proofs.Laws.Parts.{far, length_squared_is, left_far, Ends, leg_ends, moves}
+use Rattle.approach.specs.Answers.{told}
 use Rattle.approach.specs.Laws.Tests.{cross_product, near_end, near_inside}
 
 -- ---- the two ends
@@ -92,12 +94,17 @@ module _ (a b : Fix) (c : Point) (r : ℕ) where
   silent_end h = rw (lt-leb (length_squared (toward a c)) (length_squared (toward b c)) h) (at_end (toward a c) (along a b) r (toward b c) (leg_ends a b c))
 
 -- ---- what each test gives
+-- the end of a span: the place at it, if it lies within r, and none else
 module _ (num : ℕ) (v : Vector) (r : ℕ) where
   pub end_comes : length_squared v ≤ r * r → some (record { num = num; den = 1 }) ≡ near_end num v r
   end_comes h = rw (le-leb (length_squared v) (r * r) h) refl
 
   pub end_stays : r * r < length_squared v → none ≡ near_end num v r
   end_stays h = rw (lt-leb (length_squared v) (r * r) h) refl
+
+pub then_told : {A : Type 0} (t : Bool) (a : A) → told (then_some t a) ≡ cond t (some a) none
+then_told true a = refl
+then_told false a = refl
 
 pub inside_as : (p m : Vector) (s : Part) (r x y z : ℕ) (t : Bool) → x ≡ nat_abs (cross_product p m) → y ≡ nat_abs m.x → z ≡ nat_abs m.y → leb (x * x) (r * y * (r * y) + r * z * (r * z)) ≡ t
     → cond t (some s) none ≡ near_inside p m s r

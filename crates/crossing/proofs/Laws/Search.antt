@@ -6,7 +6,6 @@ use Rattle.std.proofs.Math.Option.{some, none}
 use Rattle.format.specs.Kinds.{Kind}
 use Rattle.format.specs.Format.{fix_at}
 use Rattle.legs.specs.declared.Fraction.{Fraction}
-use Rattle.legs.specs.declared.Offset.{Offset}
 use Rattle.legs.specs.declared.Raised.{Raised}
 use Rattle.legs.specs.declared.Frame.{Frame}
 use Rattle.legs.specs.Laws.Ranges.{Reach, Low, LowFrame, LegFits}
@@ -19,6 +18,7 @@ use Rattle.record.proofs.Laws.Trail.{from_next, from_end, Walk, walk_start, walk
 use Rattle.distance.specs.Fix.{Fix}
 use Rattle.distance.specs.Silence.{silent}
 use Rattle.crossing.specs.Laws.Search.{Seekable}
+use Rattle.legs.specs.declared.Offset.{Offset}
 
 -- either of two fixes, raised
 raised_either : (z : ℕ) (t : Bool) (a b : Fix) → raised z (cond t a b) ≡ cond t (raised z a) (raised z b)
@@ -88,6 +88,7 @@ module _ {K : Kind} {b : List ℕ} {n : ℕ} {f : Frame} {w v : ℕ} {a : Raised
   unfolding first_from
   seek_end h = let e : k ≡ n = omega (arith, x.walk.few) in x.left ∙ rw (x.here, e, from_end fix n) refl
 
+-- a box of four offsets is the one of their numbers
 pub frame_parts : (l r b t : Offset) (i j k m : ℕ) → l.0 ≡ i → r.0 ≡ j → b.0 ≡ k → t.0 ≡ m
     → ◌≡◌ {A = Frame} (record { left = l; right = r; bottom = b; top = t }) (record { left = record { 0 = i }; right = record { 0 = j }; bottom = record { 0 = k }; top = record { 0 = m } })
 frame_parts l r b t i j k m e f g h = rw (← e, ← f, ← g, ← h) refl

@@ -1,4 +1,3 @@
-use Prim.Native.Nat.{◌-◌}
 use Rattle.format.specs.Kinds.{trail}
 use Rattle.format.proofs.Laws.Layout.{FixesPut}
 use Rattle.dearest.specs.Dearest.{dearest_fix}
@@ -6,6 +5,3 @@ use Rattle.dearest.proofs.put_dearest.Given as goal
 
 abbrev pub invariant-loop-i : goal.invariant-loop-i
 invariant-loop-i l = FixesPut trail (dearest_fix l.n) l.n l.initial.out l.i l.out
-
-abbrev pub decreases-loop-i : goal.decreases-loop-i
-decreases-loop-i l = l.n - l.i

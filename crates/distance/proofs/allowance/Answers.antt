@@ -3,16 +3,16 @@ use Rattle.distance.specs.Distance.{seconds, allowance}
 use Rattle.distance.proofs.Laws.Ranges.{ReachFits, reach_fits, square_of_product}
 use borrow.Author.Rules.{rules}
 use Rattle.distance.proofs.allowance.Goals as goal
-use Rattle.distance.proofs.allowance.Goals.{After-struct_known-2-1}
+use Rattle.distance.proofs.allowance.Goals.{After-since-d}
 
-ranges : (c : After-struct_known-2-1) → ReachFits c.args.e.0 c.since-d.result.0
+ranges : (c : After-since-d) → ReachFits c.args.e.0 c.since-d.result.0
 ranges c = reach_fits _ _ (search rules) (search rules)
 
 pub overflow_mul-reach : goal.overflow_mul-reach
-overflow_mul-reach c = let k = ranges c in search rules
+overflow_mul-reach c = let k = ranges (goal.at-overflow_mul-reach c).After-since-d in search rules
 
 pub overflow_mul-result : goal.overflow_mul-result
-overflow_mul-result c = let k = ranges c in search rules
+overflow_mul-result c = let k = ranges (goal.at-overflow_mul-result c).After-since-d in search rules
 
 pub returns : goal.returns
 unfolding allowance

@@ -1,13 +1,21 @@
 -- Laws of numbers in two words.
-use Rattle.std.specs.Prelude.{◌≡◌, refl, true, false, not, ℕ, suc, ◌+◌, ◌*◌, ◌-◌, ◌/◌, ◌%◌, ◌≤◌, ◌<◌, ltb, leb}
+use Rattle.std.specs.Prelude.{◌≡◌, refl, Some, true, false, not, ℕ, suc, ◌+◌, ◌*◌, ◌-◌, ◌/◌, ◌%◌, ◌≤◌, ◌<◌, ltb, leb}
+use Rattle.std.specs.Ordering.{nat_cmp, partial_ordering_then}
+use Rattle.std.proofs.lemmas.Bool.Decides.{nat_tests}
 use Rattle.std.proofs.Common.{sym, mul-le-mul, arith, lt-ltb, le-ltb}
+use mathlib.Core.HLevel.{is_prop→PathP}
+use Rattle.std.proofs.Math.Bridge.{le_prop}
+use Rattle.distance.specs.declared.words.Parts.{Parts}
 use Rattle.distance.specs.declared.words.Words.{Words}
 use Rattle.distance.specs.Words.{value, WordsOf}
 use Rattle.distance.specs.Integers.Tests.{same_test, not_greater}
 
 -- ---- the square of a number below 2⁴⁰ before its words are normal: so small that two of them can be added
-pub record PartsOf (n : ℕ) (w : Words) : Type 0 where
-  pub is : value w ≡ n
+abbrev pub sum_of_parts : Parts → ℕ
+sum_of_parts w = w.high * 4294967296 + w.low
+
+pub record PartsOf (n : ℕ) (w : Parts) : Type 0 where
+  pub is : sum_of_parts w ≡ n
   pub high_small : w.high < 4611686018427387904
   pub low_small : w.low < 4611686018427387904
 
@@ -22,6 +30,11 @@ square_parts x h = record {
 }
 
 -- ---- the words decide as the numbers do, the high ones first
+pub words_ordered : (v w : Words)
+    → partial_ordering_then (Some (nat_cmp v.high w.high)) (Some (nat_cmp v.low w.low)) ≡ Some (nat_cmp (value v) (value w))
+words_ordered v w = grind (arith, nat_tests)
+
+-- Said of the test "greater" alone: the greater high word decides, either way, and with the same high words the low ones do.
 module _ (v w : Words) (n : (v.low < 4294967296) × (w.low < 4294967296)) where
   pub higher : w.high < v.high → true ≡ ltb (value w) (value v)
   higher h = sym (lt-ltb (value w) (value v) (omega arith))
@@ -34,10 +47,10 @@ module _ (v w : Words) (n : (v.low < 4294967296) × (w.low < 4294967296)) where
 
 -- ---- a number has one pair of words
 pub words_unique : {n : ℕ} {v w : Words} → WordsOf n v → WordsOf n w → v ≡ w
-words_unique p q = same (omega (arith, p.is, p.normal, q.is, q.normal)) (omega (arith, p.is, p.normal, q.is, q.normal))
+words_unique {v} {w} p q = same v w (omega (arith, p.is, p.normal, q.is, q.normal)) (omega (arith, p.is, p.normal, q.is, q.normal))
   where
-    same : {v w : Words} → v.high ≡ w.high → v.low ≡ w.low → v ≡ w
-    same h l = rw (h, l) refl
+    same : (v w : Words) → v.high ≡ w.high → v.low ≡ w.low → v ≡ w
+    same v w h l i = record { high = h i; low = l i; normal = is_prop→PathP (λ j. l j < 4294967296) (λ j. le_prop) v.normal w.normal i }
 
 -- ONE WORD OR TWO DECIDES NOTHING: numbers in two words compare with each other, and with a number in one, as the numbers do.
 pub one_or_two : {n k : ℕ} {v w : Words} → WordsOf n v → WordsOf k w → (ltb (value v) (value w) ≡ ltb n k) × (leb (value v) k ≡ leb n k)

@@ -1,28 +1,17 @@
-use mir.Syntax.{w32}
+use mathlib.Core.Path.{sym, ap}
 use mir.Facts.{to_z-of_z}
+use mir.Syntax.{w32}
+use borrow.Author.Rules.{rules}
 use Rattle.distance.specs.Fix.{fix_of}
 use Rattle.export.proofs.Laws.{step_found}
-use mathlib.Core.Path.{sym, ◌∙◌, ap}
-use Rattle.record.specs.Answers.{gives}
 use Rattle.reading.specs.Answers.{found}
-use Rattle.reading.specs.declared.Step.{Step as Yielded}
-use Rattle.export.specs.Interface.{step_numbers}
-use borrow.Author.Rules.{rules}
 use Rattle.export.proofs.step_of.Goals as goal
 
-pub returns-in-Found : goal.returns-in-Found
-returns-in-Found c =
-    step_found
-    _
-    (fix_of c.in-Found.f)
-    _
-    _
-    _
-    _
-    (to_z-of_z {w = w32} {z = c.whole.result} (search rules) ∙ c.whole.ensures)
-    (to_z-of_z {w = w32} {z = c.whole-in-Found.result} (search rules) ∙ c.whole-in-Found.ensures)
-    c.wide.ensures
-    (sym (ap found c.in-Found.is))
+pub returns-in-Some : goal.returns-in-Some
+returns-in-Some c =
+    let x = to_z-of_z {w = w32} {z = c.in-Some.f.x.0} (search rules) in
+    let y = to_z-of_z {w = w32} {z = c.in-Some.f.y.0} (search rules) in
+    step_found _ (fix_of c.in-Some.f) _ _ _ _ x y c.from.ensures (sym (ap found c.in-Some.is))
 
-pub returns-in-NoneLeft : goal.returns-in-NoneLeft
-returns-in-NoneLeft c = ap (λ (s : Yielded). step_numbers c.args.kind (gives (found s))) (sym c.in-NoneLeft.is)
+pub returns-in-None : goal.returns-in-None
+returns-in-None c = search rules

@@ -4,5 +4,5 @@ use Rattle.export.proofs.trails_age.Goals as goal
 
 pub returns : goal.returns
 returns c =
-    let done = c.age-a.ensures in
-    (c.count_of.ensures ∙ ap value_numbers done.0, done.1)
+    let done = c.age.ensures in
+    (c.from.ensures ∙ ap value_numbers done.answer, done.bytes)

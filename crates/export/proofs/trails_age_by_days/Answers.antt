@@ -4,5 +4,5 @@ use Rattle.export.proofs.trails_age_by_days.Goals as goal
 
 pub returns : goal.returns
 returns c =
-    let done = c.age_by_days-a.ensures in
-    (c.count_of.ensures ∙ ap value_numbers done.0, done.1)
+    let done = c.age_by_days.ensures in
+    (c.from.ensures ∙ ap value_numbers done.answer, done.bytes)

@@ -1,14 +1,8 @@
-use mathlib.Core.Path.{sym, ◌∙◌, ap}
-use Rattle.reading.specs.Answers.{read_count}
+use mathlib.Core.Path.{◌∙◌, ap}
 use Rattle.export.specs.Interface.{value_numbers}
 use Rattle.export.proofs.trails_read_all.Goals as goal
 
-pub returns-in-Count : goal.returns-in-Count
-returns-in-Count c =
-    let done = c.read_all-a.ensures in
-    (ap value_numbers (sym (ap read_count c.in-Count.is) ∙ done.0), done.1, done.2, done.3, done.4)
-
-pub returns-in-Refused : goal.returns-in-Refused
-returns-in-Refused c =
-    let done = c.read_all-a.ensures in
-    (rw c.wide.ensures (ap value_numbers (sym (ap read_count c.in-Refused.is) ∙ done.0)), done.1, done.2, done.3, done.4)
+pub returns : goal.returns
+returns c =
+    let done = c.read_all.ensures in
+    (c.from.ensures ∙ ap value_numbers done.answer, done.times, done.xs, done.ys, done.silences)

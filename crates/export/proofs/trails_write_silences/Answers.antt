@@ -4,5 +4,5 @@ use Rattle.export.proofs.trails_write_silences.Goals as goal
 
 pub returns : goal.returns
 returns c =
-    let done = c.write-w.ensures in
-    (c.length_of.ensures ∙ ap value_numbers done.0, done.1)
+    let done = c.write.ensures in
+    (c.from.ensures ∙ ap value_numbers done.0, done.1)

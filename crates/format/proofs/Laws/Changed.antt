@@ -11,7 +11,7 @@ use Rattle.distance.specs.Fix.{Fix}
 use Rattle.distance.specs.Laws.All.{All}
 use Rattle.distance.proofs.Laws.All.{all_map, all_sets}
 use Rattle.format.specs.Kinds.{Kind}
-use Rattle.format.specs.Format.{kind_of, record_length, each, fix_at, all_bytes, length_field, kind_field, mark_field, count_field, fixes, changed}
+use Rattle.format.specs.Format.{kind_of, record_length, each, fix_at, all_bytes, count_field, fixes, changed}
 use Rattle.format.proofs.Laws.Kinds.{kind_of_is, same_kind_of}
 use Rattle.format.proofs.Laws.Each.{length_each}
 use Rattle.format.proofs.Laws.Stores.{number_before}

@@ -1,10 +1,10 @@
 -- What holds of every kind there is, and of the kind of lent bytes.
-use Rattle.std.specs.Prelude.{◌≡◌, refl, Bool, true, false, cond, ◌||◌, List, ℕ, suc, ◌+◌, ◌*◌, ◌^◌, ◌<◌, ◌≤◌, eqb}
-use Rattle.std.proofs.Common.{mul-le-mul_left, mul-le-mul_right, mul-le-mul, mul-suc, arith, eqb-true, ne_eqb}
+use Rattle.std.specs.Prelude.{◌≡◌, refl, Bool, true, false, cond, ◌||◌, List, ℕ, suc, ◌+◌, ◌*◌, ◌^◌, ◌<◌, ◌≤◌, eqb, ◌⊎◌}
+use Rattle.std.proofs.Common.{inl, inr, mul-le-mul_left, mul-le-mul_right, mul-le-mul, mul-suc, arith, eqb-true, ne_eqb}
 use Rattle.distance.specs.Fix.{widest}
 use Rattle.format.specs.declared.Kind.{Kind as CodeKind}
 use Rattle.format.specs.declared.Kind.TheVariants.{Trail, MillimetreTrail, SilenceTrail}
-use Rattle.format.specs.Kinds.{Kind, trail, millimetre_trail, silence_trail, kinds, coded, layout}
+use Rattle.format.specs.Kinds.{Kind, trail, millimetre_trail, silence_trail, has_silences, kinds, coded, layout}
 use Rattle.format.specs.Format.{kind_field, kind_of, record_length}
 
 -- WHAT EVERY KIND KEEPS TO, so that laws about any kind can use it: a fix is its time, two coordinates and its silence; its numbers are of few bytes; a place
@@ -26,6 +26,22 @@ pub is_kind : (κ : CodeKind) → IsKind (layout κ)
 is_kind Trail = record { size_is = refl; some_width = omega arith; small_size = omega arith; code_small = omega arith; inside = omega arith; within_widest = omega arith; some_place = omega arith; marked = omega arith; few_units = omega arith }
 is_kind MillimetreTrail = record { size_is = refl; some_width = omega arith; small_size = omega arith; code_small = omega arith; inside = omega arith; within_widest = omega arith; some_place = omega arith; marked = omega arith; few_units = omega arith }
 is_kind SilenceTrail = record { size_is = refl; some_width = omega arith; small_size = omega arith; code_small = omega arith; inside = omega arith; within_widest = omega arith; some_place = omega arith; marked = omega arith; few_units = omega arith }
+
+-- what kinds 1 and 3 share
+pub narrow : {κ : CodeKind} → (κ ≡ Trail) ⊎ (κ ≡ SilenceTrail) → (layout κ).width ≡ 2
+narrow (inl e) = rw e refl
+narrow (inr e) = rw e refl
+
+-- the silence of a fix is one byte or none
+pub silence_told : (κ : CodeKind) → has_silences (layout κ) ≡ true → (layout κ).silence_width ≡ 1
+silence_told Trail h = absurd (let z = h in cc)
+silence_told MillimetreTrail h = absurd (let z = h in cc)
+silence_told SilenceTrail h = refl
+
+pub silence_untold : (κ : CodeKind) → has_silences (layout κ) ≡ false → (layout κ).silence_width ≡ 0
+silence_untold Trail h = refl
+silence_untold MillimetreTrail h = refl
+silence_untold SilenceTrail h = absurd (let z = h in cc)
 
 -- ---- the kind of lent bytes is the one of the code whose number stands there, ..
 pub kind_is : (κ : CodeKind) (b : List ℕ) → kind_field b ≡ (layout κ).code → kind_of b ≡ layout κ

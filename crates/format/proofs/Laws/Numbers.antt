@@ -1,22 +1,23 @@
 -- Numbers of bytes: what the code's sums and two's complement come to.
-use Rattle.std.specs.Prelude.{◌≡◌, refl, List, ℕ, zero, suc, ◌+◌, ◌*◌, ◌-◌, ◌^◌, ◌<◌, ◌≤◌, get_or, true, false, T, ℤ, pos, negsuc, nat_abs, ◌+ℤ◌, ◌-ℤ◌}
+use Rattle.std.specs.Prelude.{◌≡◌, refl, List, ℕ, zero, suc, ◌+◌, ◌*◌, ◌-◌, ◌/◌, ◌%◌, ◌^◌, ◌<◌, ◌≤◌, get_or, Bool, true, false, T, ℤ, pos, negsuc, nat_abs, ◌+ℤ◌, ◌-ℤ◌}
 use Rattle.std.proofs.Common.{sym, ◌∙◌, ap, pow-suc, arith, add-one, lt-ltb, le-ltb}
 use Rattle.std.proofs.Math.Numerals.{add-two, add-three}
-use Rattle.std.specs.Int.Signed.{non_neg, lt_z}
-use Rattle.std.specs.Int.{Width, w32, w64}
-use mir.Val.{Fits, SFits, to_z, hbits}
-use Rattle.std.proofs.Math.Facts.{to_z_pos}
+use Rattle.std.specs.Int.{Width, w16, w32, w64, to_le_bytes}
+use mir.Val.{Fits, SFits, to_z, of_z, bits, hbits}
+use Rattle.std.proofs.Math.Facts.{to_z_pos, to_z-neg, to_z-of_z}
 use Rattle.distance.specs.Integers.Differences.{diffs}
-use Rattle.distance.specs.Integers.Order.{lt_z_false, zero_le}
-use Rattle.distance.specs.Integers.Bounds.{Bound, ◌⊕◌, of_width, fits}
-use Rattle.format.specs.Bytes.{InBytes, number_at, signed, unsigned}
+use Rattle.distance.specs.Integers.Bounds.{of_width, fits, Bound, ◌⊕◌}
+use Rattle.distance.specs.Integers.Tests.{Test, holds, fails, test}
+use Rattle.format.specs.Bytes.{InBytes, number_at, bytes_of, signed, unsigned}
 use Rattle.format.specs.Format.{fix_from}
 use Rattle.distance.specs.Fix.{Fix}
+use Rattle.std.specs.Int.Signed.{non_neg, lt_z}
+use Rattle.distance.specs.Integers.Order.{lt_z_false, zero_le}
 
 pub false_true : false ≡ true → ⊥
 false_true e = let z : ◌≡◌ {A = ℕ} 0 1 = cc in omega arith
 
--- two and four bytes, written out
+-- two and four bytes, written out, ..
 pub two_bytes : (b : List ℕ) (at : ℕ) → get_or b at 0 + get_or b (at + 1) 0 * 256 ≡ number_at b at 2
 unfolding number_at
 two_bytes b at = rw add-one (omega arith)
@@ -24,6 +25,25 @@ two_bytes b at = rw add-one (omega arith)
 pub four_bytes : (b : List ℕ) (at : ℕ) → get_or b at 0 + get_or b (at + 1) 0 * 256 + get_or b (at + 2) 0 * 65536 + get_or b (at + 3) 0 * 16777216 ≡ number_at b at 4
 unfolding number_at
 four_bytes b at = rw (add-one, add-two, add-three) (omega arith)
+
+-- .. and what the library makes of a number
+pub two_written : (n : ℕ) → to_le_bytes w16 n ≡ bytes_of 2 n
+unfolding bytes_of
+two_written n = refl
+
+pub two_of_more : (n : ℕ) → bytes_of 2 (n % 65536) ≡ bytes_of 2 n
+unfolding bytes_of
+two_of_more n =
+    let low : n % 65536 % 256 ≡ n % 256 = omega arith in
+    let high : n % 65536 / 256 % 256 ≡ n / 256 % 256 = omega arith in
+    rw (low, high) refl
+
+pub four_written : (n : ℕ) → to_le_bytes w32 n ≡ bytes_of 4 n
+unfolding bytes_of
+four_written n =
+    let e : n / 65536 ≡ n / 256 / 256 = omega arith in
+    let f : n / 16777216 ≡ n / 256 / 256 / 256 = omega arith in
+    rw (e, f) refl
 
 pub even : (width : ℕ) → 1 ≤ width → 2 * (128 * 256 ^ (width - 1)) ≡ 256 ^ width
 even zero h = absurd (omega arith)
@@ -38,7 +58,7 @@ pub signed_high : (size n : ℕ) → 256 ^ size ≤ 2 * n → n < 256 ^ size →
 unfolding signed
 signed_high size n h k = rw (le-ltb (2 * n) (256 ^ size) h) (simp diffs (omega arith))
 
--- −1 − k, computed by the code in 16 bits or in 32
+-- the complement −1 − k of a number of 16 or 32 bits whose top bit is 0, which is the number below 0 as far from −1 as k is from 0
 minus_one_less : (k : ℕ) → negsuc 0 -ℤ pos k ≡ negsuc k
 minus_one_less k = simp diffs (omega arith)
 
@@ -48,6 +68,27 @@ module _ (w : Width) (k : ℕ) (small : k < 2 ^ hbits w) where
 
   pub complement_fits : SFits w (negsuc 0 -ℤ to_z w k)
   complement_fits = rw complement (record { sfits = small })
+
+-- that is what the library makes of the bits, both ways
+module _ (w : Width) (size : ℕ) (whole : 2 ^ bits w ≡ 256 ^ size) (half : 2 * 2 ^ hbits w ≡ 256 ^ size) where
+  pub bits_read : (n : ℕ) → n < 256 ^ size → to_z w n ≡ signed size n
+  bits_read n h = go (test (256 ^ size) (2 * n))
+    where
+      go : {x : Bool} → Test (256 ^ size) (2 * n) x → to_z w n ≡ signed size n
+      go (fails t) = to_z_pos w (omega arith) ∙ signed_low size n t
+      go (holds t) =
+          let k = 256 ^ size - 1 - n in
+          let e : 2 ^ bits w - suc k ≡ n = omega arith in
+          ap (to_z w) (sym e) ∙ to_z-neg w k (omega arith) ∙ signed_high size n t h
+
+  pub bits_written : (z : ℤ) → of_z w z ≡ unsigned size z
+  unfolding unsigned
+  bits_written (pos n) = refl
+  bits_written (negsuc n) = rw whole refl
+
+-- a number that 16 bits hold is the same in 32
+pub widened : (z : ℤ) → SFits w16 z → to_z w32 (of_z w32 (to_z w16 (of_z w16 z))) ≡ z
+widened z f = let g : SFits w32 z = fits w32 (of_width w16 f) tt in simp (to_z-of_z, f, g) refl
 
 -- a fix, from its parts
 pub fix_parts : (width silence_width : ℕ) (b : List ℕ) (at t : ℕ) (x y : ℤ) (s : ℕ) → t ≡ number_at b at 4 → x ≡ signed width (number_at b (at + 4) width)
@@ -71,7 +112,7 @@ with_silence b at s f e z =
     let eight : at + 4 + 2 + 2 ≡ at + 8 = omega arith in
     rw (e, z, eight, one_byte b (at + 8)) refl
 
--- ---- the other way: the number that says a coordinate, computed in 64 bits
+-- ---- the other way: the number that says a coordinate, where 64 bits hold the sum with 256 to the power of size
 pub record NumberFits (size : ℕ) (z : ℤ) : Type 0 where
   pub z32 : SFits w32 z
   pub z64 : SFits w64 z

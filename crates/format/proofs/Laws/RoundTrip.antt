@@ -1,14 +1,13 @@
 -- THE ROUND TRIP. What is written is read again: the fixes, the mark and the count. And an accepted record, written again with its own mark, is its
 -- own bytes.
-use Rattle.std.specs.Prelude.{◌≡◌, Bool, true, false, cond, ltb, get_or, take, drop, set, ℤ, pos, negsuc, neg_ℤ, ◌≤ℤ◌}
+use Rattle.std.specs.Prelude.{◌≡◌, Bool, true, false, cond, ltb, get_or, take, drop, ℤ, pos, negsuc, neg_ℤ, ◌≤ℤ◌, set}
 use Rattle.std.proofs.Math.Path.{refl, sym}
-use Rattle.std.proofs.Common.{◌∙◌, ap, pow-suc, add-one, length-take, length-drop, drop-cons, take-add, drop-drop, ltb-true}
+use Rattle.std.proofs.Common.{◌∙◌, ap, pow-suc, add-one, drop-cons, take-add, drop-drop, ltb-true, length-take, length-drop}
 use mathlib.Core.List.{List, [], ◌∷◌, ◌++◌, map, append_assoc}
 use Prim.Native.Nat.{ℕ, zero, suc, ◌+◌, ◌*◌, ◌-◌, ◌/◌, ◌%◌, ◌^◌, ◌<◌, ◌≤◌}
 use Rattle.std.proofs.Math.Nat.{mul-zero, mul-suc}
 use native.Mathlib.Omega.{arith}
 use Rattle.std.proofs.Math.ListN.{length, length-append}
-use Rattle.std.proofs.lemmas.List.Edits.{sets}
 use Rattle.std.proofs.Math.Seq.{get_or-append_seam}
 use Rattle.distance.specs.Fix.{Fix, Bounded}
 use Rattle.distance.specs.Laws.All.{All, all_none, all_more}
@@ -24,6 +23,7 @@ use Rattle.format.proofs.Laws.Kinds.{IsKind, is_kind, kind_is, kind_of_is, one_m
 use Rattle.format.proofs.Laws.Each.{length_each, each_all}
 use Rattle.format.proofs.Laws.Stores.{length_bytes, sets_then}
 use Rattle.format.proofs.Laws.Layout.{length_fix_bytes, length_header}
+use Rattle.std.proofs.lemmas.List.Edits.{sets}
 
 -- ---- a number written and read again, wherever it stands
 behind : (p : List ℕ) (x : ℕ) (l : List ℕ) → p ++ x ∷ l ≡ (p ++ x ∷ []) ++ l
@@ -276,7 +276,7 @@ module _ (K : Kind) (is : IsKind K) (b : List ℕ) (h : AreBytes b) where
       rw (write_fix k (omega arith), write_fixes (suc k) n (omega arith), next, take_more b (record_length K k) K.size (K.size * n), all, comm) refl
 
   -- what bytes say is in range
-  fix_in_range : (k : ℕ) → InRange K (fix_at K b k)
+  pub fix_in_range : (k : ℕ) → InRange K (fix_at K b k)
   unfolding fix_at fix_from
   fix_in_range k =
       let at = record_length K k in

@@ -1,12 +1,12 @@
 -- Runs of stores (`sets` of the library): one after another, what stands beyond them, and numbers stored and read again.
 use Rattle.std.specs.Prelude.{◌≡◌, refl, List, [], ◌∷◌, ◌++◌, ℕ, zero, suc, ◌+◌, ◌/◌, ◌%◌, ◌<◌, ◌≤◌, length, get_or, drop, set}
-use Rattle.std.proofs.Common.{◌∙◌, ap, append-nil, add-one, arith, length-append, get_or-set_other}
-use Rattle.std.proofs.Math.Numerals.{add-two, add-three}
+use Rattle.std.proofs.Common.{◌∙◌, ap, append-nil, append_assoc, arith, length-append, get_or-set_other, add-one}
 use Rattle.std.proofs.lemmas.List.Edits.{sets, sets-eq}
 use Rattle.distance.specs.Fix.{Fix}
 use Rattle.format.specs.Bytes.{number_at, bytes_of, unsigned}
 use Rattle.format.specs.Kinds.{Kind}
 use Rattle.format.specs.Format.{record_length, fix_to, header_bytes}
+use Rattle.std.proofs.Math.Numerals.{add-two, add-three}
 
 -- a run that follows on a run is one run
 pub sets_append : (b : List ℕ) (at : ℕ) (l m : List ℕ) → sets (sets b at l) (at + length l) m ≡ sets b at (l ++ m)
@@ -41,7 +41,11 @@ unfolding bytes_of
 length_bytes zero n = refl
 length_bytes (suc size) n = ap suc (length_bytes size (n / 256))
 
--- two and four stores
+-- a run at the place where the last one ended
+pub sets_then : (b : List ℕ) (at : ℕ) (l : List ℕ) (i : ℕ) (m : List ℕ) → i ≡ at + length l → sets (sets b at l) i m ≡ sets b at (l ++ m)
+sets_then b at l i m e = rw e (sets_append b at l m)
+
+-- two and four bytes set one at a time
 pub two_stores : (b : List ℕ) (at n : ℕ) → set (set b at (n % 256)) (at + 1) (n / 256 % 256) ≡ sets b at (bytes_of 2 n)
 unfolding bytes_of
 two_stores b at n = rw add-one refl
@@ -54,15 +58,11 @@ four_stores b at n =
     let f : n / 16777216 ≡ n / 256 / 256 / 256 = omega arith in
     rw (add-one, add-two, add-three, e, f) refl
 
--- a run at the place where the last one ended
-pub sets_then : (b : List ℕ) (at : ℕ) (l : List ℕ) (i : ℕ) (m : List ℕ) → i ≡ at + length l → sets (sets b at l) i m ≡ sets b at (l ++ m)
-sets_then b at l i m e = rw e (sets_append b at l m)
-
--- a fix, and a record's head, field by field
 no_bytes : (n : ℕ) → bytes_of 0 n ≡ []
 unfolding bytes_of
 no_bytes n = refl
 
+-- a fix, without its silence and with the byte of it, and a record's head, field by field
 pub fix_stores : (width : ℕ) (b : List ℕ) (at at_y : ℕ) (f : Fix) → at_y ≡ at + 4 + width
     → sets (sets (sets b at (bytes_of 4 f.t)) (at + 4) (bytes_of width (unsigned width f.x))) at_y (bytes_of width (unsigned width f.y)) ≡ sets b at (fix_to width 0 f)
 unfolding fix_to
@@ -73,7 +73,19 @@ fix_stores width b at at_y f e =
     ∙ sets_then b at (bytes_of 4 f.t) (at + 4) (x ++ y) (rw (length_bytes 4 f.t) refl)
     ∙ rw (no_bytes f.silence, append-nil y) refl
 
--- .. with the byte of silence behind it
+pub silence_stored : (width : ℕ) (b : List ℕ) (at : ℕ) (f : Fix) → f.silence < 256
+    → set (sets b at (fix_to width 0 f)) (at + 4 + width + width) f.silence ≡ sets b at (fix_to width 1 f)
+unfolding fix_to bytes_of
+silence_stored width b at f h =
+    let x = bytes_of width (unsigned width f.x) in
+    let y = bytes_of width (unsigned width f.y) in
+    let front = bytes_of 4 f.t ++ (x ++ (y ++ [])) in
+    let e : f.silence % 256 ≡ f.silence = omega arith in
+    let size : length front ≡ 4 + width + width = rw (length-append (bytes_of 4 f.t) (x ++ (y ++ [])), length-append x (y ++ []), append-nil y, length_bytes 4 f.t, length_bytes width (unsigned width f.x), length_bytes width (unsigned width f.y)) (omega arith) in
+    sets_then b at front (at + 4 + width + width) (f.silence ∷ []) (rw size (omega arith))
+    ∙ rw (e, append-nil y, append_assoc x y (f.silence ∷ [])) refl
+
+-- at a width of two bytes, where a fix without its silence takes eight
 pub length_narrow : (f : Fix) → length (fix_to 2 0 f) ≡ 8
 unfolding fix_to
 length_narrow f = rw (no_bytes f.silence, append-nil (bytes_of 2 (unsigned 2 f.y)), length-append, length-append, length_bytes, length_bytes, length_bytes) refl

@@ -7,5 +7,5 @@ pub returns : goal.returns
 returns c =
     let a = c.args in
     c.put_two-3.ensures
-    ∙ rw (c.put_two-2.ensures, c.put_two.ensures, c.code_of.ensures, c.put_four.ensures, c.record_length.ensures)
+    ∙ rw (c.put_two-2.ensures, c.put_two.ensures, c.from.ensures, c.put_four.ensures, c.record_length.ensures)
     (head_stores (layout a.kind) _ a.mark a.n)

@@ -1,23 +1,23 @@
 -- What the functions ask of their callers and of the code's widths, one list of facts for each function, proved once.
-use Rattle.std.specs.Prelude.{◌≡◌, Bool, true, false, ◌&&◌, [], ◌∷◌, ℕ, ◌+◌, ◌*◌, ◌-◌, ◌≤◌, ltb, ℤ, pos, nat_abs, neg_ℤ, ◌-ℤ◌, ◌*ℤ◌, ◌≤ℤ◌}
+use Rattle.std.specs.Prelude.{◌≡◌, [], ◌∷◌, ℕ, ◌+◌, ◌*◌, ◌-◌, ◌≤◌, ℤ, pos, nat_abs, neg_ℤ, ◌-ℤ◌, ◌*ℤ◌, ◌≤ℤ◌, Bool, true, false, ◌&&◌, ltb}
 use Rattle.std.proofs.Math.Path.{refl}
-use Rattle.std.proofs.Common.{sym, ◌∙◌, arith, Fits, SFits, to_z, to_z-of_z}
+use Rattle.std.proofs.Common.{arith, Fits, SFits, to_z, to_z-of_z, sym, ◌∙◌}
 use Rattle.std.specs.Int.{w32, w64}
 use Rattle.distance.specs.Fix.{Fix, widest}
 use Rattle.distance.specs.Distance.{seconds}
 use Rattle.distance.specs.Place.{instant, leg, interpolated}
 use Rattle.distance.specs.Rounding.{rounded}
-use Rattle.distance.specs.Silence.{silent, strictly_between}
 use Rattle.distance.specs.Span.{Roundable}
 use Rattle.distance.specs.Integers.Differences.{diffs}
 use Rattle.distance.specs.Integers.Order.{gap, nat, le_by, ◌⊞◌, ◌⊠◌, pos_le}
 use Rattle.distance.specs.Integers.Ring.{ring, quotes, lit, vars}
 use Rattle.distance.specs.Integers.Bounds.{abs_bound, Bound, ◌⊕◌, ◌⊝◌, ◌⊛◌, of_width, fits}
-use Rattle.record.specs.Answers.{gives, turns_away}
 use Rattle.moment.specs.Moment.{Standing, beside}
 use Rattle.moment.specs.Laws.Ranges.{OnLeg, unless_silent}
+use Rattle.distance.specs.Silence.{silent, strictly_between}
+use Rattle.record.specs.Answers.{gives, turns_away}
 
--- what the code asks of a leg that begins at s thousandths and ends at e, and what it then gives
+-- a moment strictly inside a silent leg that begins at s thousandths and ends at e is refused, and at any other the leg gives the place
 module _ (a b : Fix) (u : ℕ) {s e : ℕ} {q : Bool} (p : q ≡ silent a) (r : s ≡ 1000 * a.t + 0) (t : e ≡ 1000 * b.t + 0) where
   heard_test : q && (ltb s u && ltb u e) ≡ silent a && strictly_between a b (instant u)
   heard_test = let m : 1000 * a.t + 0 ≡ 1000 * a.t = omega arith in let n : 1000 * b.t + 0 ≡ 1000 * b.t = omega arith in rw (p, r, t, m, n) refl
@@ -77,6 +77,7 @@ axis_within limit i j d s a b c e m =
     abs_bound _ (limit * d) (high_axis (pos limit) i j d s b e m) (rw low at (low_axis (neg_ℤ (pos limit)) i j d s a c m))
 
 -- ---- the parts of a place on a leg: its seconds in thousandths, and those gone
+-- the ends of a leg are within the widest limit
 pub x_within : {a b : Fix} {u : ℕ} → OnLeg a b u → (nat_abs a.x ≤ widest) × (nat_abs b.x ≤ widest)
 x_within {a} {b} h = let p = h.leg.bounded_a in let q = h.leg.bounded_b in (abs_bound a.x widest p.x_high p.x_low, abs_bound b.x widest q.x_high q.x_low)
 

@@ -12,12 +12,6 @@ across s = alone_fits (search rules)
 along : (s : Start) → AloneFits s.args.a.y.0
 along s = alone_fits (search rules)
 
-pub overflow_cast-result : goal.overflow_cast-result
-overflow_cast-result c = let k = across (goal.at-overflow_cast-result c).Start in search rules
-
-pub overflow_cast-result-2 : goal.overflow_cast-result-2
-overflow_cast-result-2 c = let k = along (goal.at-overflow_cast-result-2 c).Start in search rules
-
 pub returns : goal.returns
 unfolding own
 returns c =

@@ -6,18 +6,6 @@ use Rattle.moment.proofs.numerator.Goals.{Start}
 ranges : (s : Start) → NumeratorFits s.args.i.0 s.args.j.0 s.args.over.0 s.args.gone.0
 ranges s = numerator_fits s.requires.0 s.requires.1 (search rules) (search rules)
 
-pub overflow_cast-start : goal.overflow_cast-start
-overflow_cast-start c = let k = ranges (goal.at-overflow_cast-start c).Start in search rules
-
-pub overflow_mul-result : goal.overflow_mul-result
-overflow_mul-result c = let k = ranges (goal.at-overflow_mul-result c).Start in search (rules, k.d64)
-
-pub overflow_cast-result-2 : goal.overflow_cast-result-2
-overflow_cast-result-2 c = let k = ranges (goal.at-overflow_cast-result-2 c).Start in search rules
-
-pub overflow_sub-result : goal.overflow_sub-result
-overflow_sub-result c = let k = ranges (goal.at-overflow_sub-result c).Start in search rules
-
 pub overflow_mul-result-2 : goal.overflow_mul-result-2
 overflow_mul-result-2 c = let k = ranges (goal.at-overflow_mul-result-2 c).Start in search (rules, k.s64)
 

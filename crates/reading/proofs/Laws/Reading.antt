@@ -1,16 +1,18 @@
 -- The reader at a position: where a fix stands, what is yielded there, and what it says of the checks.
-use Rattle.std.specs.Prelude.{◌≡◌, true, false, cond, ◌&&◌, List, ℕ, suc, ◌+◌, ◌<◌, ◌≤◌, ltb, length}
+use Rattle.std.specs.Prelude.{◌≡◌, Bool, true, false, cond, ◌&&◌, List, ℕ, suc, ◌+◌, ◌-◌, ◌<◌, ◌≤◌, ltb, length}
 use Rattle.std.proofs.Math.Path.{refl}
 use Rattle.std.proofs.Common.{◌∙◌, add-one, arith}
 use Rattle.std.proofs.Math.Bool.{and-false}
 use Rattle.std.proofs.Math.Option.{Option, some, none}
 use Rattle.std.proofs.Math.Dec.{leb}
 use borrow.Author.Tests.{lt-ltb, le-ltb, lt-leb, le-leb, ltb-true, leb-true}
+use Rattle.distance.specs.Fix.{Fix}
 use Rattle.format.specs.Kinds.{kinds, coded}
 use Rattle.format.specs.Format.{kind_field, kind_of, record_length, count_field, fix_at}
 use Rattle.format.proofs.Laws.Kinds.{longer}
 use Rattle.distance.specs.Integers.Tests.{both}
 use Rattle.record.specs.Checks.{read_refusal}
+use Rattle.record.proofs.Laws.First.{some_none}
 use Rattle.reading.specs.Reading.{stands, yields, moves, past_every_fix, position_for, begins, told_refusal}
 
 module _ (b : List ℕ) (k : ℕ) where
@@ -52,6 +54,14 @@ module _ (b : List ℕ) (k : ℕ) where
   pub moves_not : stands b k ≡ false → moves b k ≡ k
   unfolding moves
   moves_not h = rw h refl
+
+-- where a fix is yielded fewer are left
+pub fewer_left : (b : List ℕ) (k : ℕ) (f : Fix) → some f ≡ yields b k → count_field b - moves b k < count_field b - k
+fewer_left b k f e = go (stands b k) refl
+  where
+    go : (s : Bool) → stands b k ≡ s → count_field b - moves b k < count_field b - k
+    go true h = rw (moves_on b k h) (omega (arith, (stands_true b k h).0))
+    go false h = absurd (some_none (e ∙ yields_none b k h))
 
 -- AN UNKNOWN KIND: a reader, at whatever position somebody puts it, yields nothing.
 pub unknown_yields_none : (b : List ℕ) (k : ℕ) → coded kinds (kind_field b) ≡ false → yields b k ≡ none

@@ -1,8 +1,9 @@
 -- The fixes that lent bytes have by position, a leg between two of them, and how far the bytes of an accepted record reach.
-use Rattle.std.specs.Prelude.{List, ℕ, ◌-◌, ◌<◌, ◌≤◌, ◌+◌, length}
+use Rattle.std.specs.Prelude.{◌≡◌, List, ℕ, ◌-◌, ◌<◌, ◌≤◌, ◌+◌, length}
 use Rattle.distance.specs.Fix.{Fix, Bounded}
-use Rattle.format.specs.Kinds.{Kind}
-use Rattle.format.specs.Format.{kind_of, record_length, fix_at, each}
+use Rattle.format.specs.Kinds.{Kind, layout}
+use Rattle.format.specs.Format.{kind_of, record_length, count_field, fix_at, each}
+use Rattle.format.specs.declared.fixes.Fixes.{Fixes}
 
 -- one leg of a checked trail
 pub record Leg (limit : ℕ) (a b : Fix) : Type 0 where
@@ -24,3 +25,9 @@ pub record Lent (K : Kind) (b : List ℕ) (n : ℕ) : Type 0 where
   pub some : 1 ≤ n
   pub few : n ≤ 4096
   pub whole : record_length K n ≤ length b
+
+-- these are the fixes of the record that lent bytes begin with: as many as its head says, read as its kind
+pub record FixesOf (s : Fixes) (b : List ℕ) : Type 0 where
+  pub bytes_are : s.bytes.now ≡ b
+  pub kind_is : layout s.kind ≡ kind_of b
+  pub count_is : s.count ≡ count_field b

@@ -1,19 +1,21 @@
 -- The checks of a table, as the code makes them: 22, and then 23 row by row.
-use Rattle.std.specs.Prelude.{◌≡◌, ◌⊎◌, Bool, true, false, ◌||◌, length}
+use Rattle.std.specs.Prelude.{◌≡◌, ◌⊎◌, Bool, true, false, ◌||◌, length, map, take, drop}
 use Rattle.std.proofs.Math.Path.{refl}
-use Rattle.std.proofs.Common.{sym, ◌∙◌, inl, inr}
+use Rattle.std.proofs.Common.{sym, ◌∙◌, ap, inl, inr, add-one, drop-cons}
+use Rattle.std.proofs.lemmas.List.{drop_all}
 use mathlib.Core.List.{List, [], ◌∷◌}
-use Rattle.std.proofs.Math.Option.{some, none}
-use Prim.Native.Nat.{ℕ, zero, suc, ◌+◌, ◌-◌, ◌<◌, ◌≤◌}
+use Rattle.std.proofs.Math.Option.{Option, some, none}
+use Prim.Native.Nat.{ℕ, zero, suc, ◌+◌, ◌<◌, ◌≤◌, ◌-◌}
 use native.Mathlib.Omega.{arith}
 use borrow.Author.Tests.{eq-eqb, ne_eqb, lt-ltb, le-ltb}
 use Rattle.distance.specs.Integers.Tests.{Test, holds, fails, test}
 use Rattle.format.specs.Format.{each}
-use Rattle.format.proofs.Laws.Each.{length_each, each_first}
+use Rattle.format.proofs.Laws.Each.{length_each, each_shift, each_first}
 use Rattle.record.specs.Checks.{Row, Check, bad_row_count, bad_rows, bad_row, some_bad_row, sentence, first, FirstHolds, this, not_before, with_table, load_refusal}
 use Rattle.record.proofs.Laws.Head.{asks}
 use Rattle.record.proofs.Laws.First.{stops, passes, first_none, first_exactly, some_none}
-use Rattle.table.specs.Answers.{row_at, row_before, table_of}
+use Rattle.table.specs.Answers.{no_row, row_of, row_in, row_at, table_of, row_before}
+use Rattle.table.specs.declared.Row.{Row as RowStruct}
 use Rattle.table.specs.declared.Table.{Table}
 
 -- ---- 22, by the number of rows alone
@@ -63,7 +65,24 @@ accepted_few rows h = go (test (length rows) 32)
 pub count_is : (t : Table) → length (table_of t) ≡ t.count
 count_is t = length_each (row_at t) 0 t.count
 
--- ---- 23: row i, after the row before it
+-- .. and they are its first ones
+pub taken : (rows : List RowStruct) (n : ℕ) → n ≤ length rows → map row_of (take n rows) ≡ each (row_in rows) 0 n
+unfolding each
+taken rows zero h = refl
+taken [] (suc n) h = absurd (omega arith)
+taken (r ∷ rows) (suc n) h = ap (λ (l : List Row). row_of r ∷ l) (taken rows n (omega arith) ∙ sym (each_shift (row_in (r ∷ rows)) (row_in rows) 0 n (λ i. refl)))
+
+-- ---- 23, row by row: row k, after the row before it, and then those behind it
+pub bad_after : (before : Option Row) (rows : List RowStruct) (k : ℕ) → k < length rows
+    → some_bad_row before (map row_of (drop k rows)) ≡ bad_row before (row_in rows k) || some_bad_row (some (row_in rows k)) (map row_of (drop (k + 1) rows))
+unfolding some_bad_row
+bad_after before rows k h = rw (add-one, drop-cons rows k no_row) refl
+
+pub bad_end : (before : Option Row) (rows : List RowStruct) (k : ℕ) → length rows ≤ k → some_bad_row before (map row_of (drop k rows)) ≡ false
+unfolding some_bad_row
+bad_end before rows k h = rw (drop_all k rows h) refl
+
+-- ---- the same by the positions of a table's rows: row i, after the row before it
 pub bad_first : (t : Table) (i : ℕ) → i ≡ 0 → bad_row none (row_at t i) ≡ bad_row (row_before t i) (row_at t i)
 bad_first t i e = rw e refl
 

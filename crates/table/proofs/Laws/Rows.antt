@@ -1,20 +1,26 @@
 -- The last row whose day isn't above the asked one: how the code finds it, and what it is.
-use Rattle.std.specs.Prelude.{◌≡◌, ◌↔◌, ◌⊎◌, Bool, cond, ℕ, suc, ◌+◌, ◌-◌, ◌<◌, ◌≤◌, leb}
+use Rattle.std.specs.Prelude.{◌≡◌, ◌↔◌, ◌⊎◌, Bool, cond, ℕ, ◌<◌, ◌≤◌, leb, map, reverse, option_map, find, Option as Optional, Some, None, suc, ◌+◌, ◌-◌}
 use Rattle.std.proofs.Math.Path.{refl, ap}
-use Rattle.std.proofs.Common.{sym, ◌∙◌, arith, le-leb}
+use Rattle.std.proofs.Common.{sym, ◌∙◌, le-leb, arith}
 use Rattle.std.proofs.Math.Logic.{inl, inr, ⊎_elim}
 use Rattle.std.proofs.Math.Bool.{true, false}
 use mathlib.Core.List.{List, [], ◌∷◌, ◌++◌}
 use Rattle.std.proofs.Math.Option.{Option, some, none}
 use Rattle.std.proofs.lemmas.Bool.{lt-leb}
+use Rattle.std.proofs.lemmas.List.{reverse-append}
+use Rattle.std.proofs.lemmas.List.Folds.{find-append}
+use Rattle.std.specs.Option.{option_or}
 use Rattle.distance.specs.Integers.Tests.{Test, holds, fails, test}
 use Rattle.distance.specs.Laws.All.{All, all_none, all_more}
-use Rattle.format.specs.Format.{each}
-use Rattle.format.proofs.Laws.Each.{each_more}
 use Rattle.record.specs.Checks.{Row, load_refusal}
 use Rattle.record.specs.Answers.{gives, turns_away}
 use Rattle.record.proofs.Laws.First.{some_none, some_same}
 use Rattle.table.specs.Table.{last_row, days_give, tolerance_answer, IsLastRow}
+use Rattle.distance.specs.Options.{option_by}
+use Rattle.table.specs.Answers.{row_of, tolerance_of}
+use Rattle.table.specs.declared.Row.{Row as RowStruct}
+use Rattle.format.specs.Format.{each}
+use Rattle.format.proofs.Laws.Each.{each_more}
 
 -- ---- one row more: it decides where its day isn't above, and else the rows before it do
 module _ (d : ℕ) where
@@ -41,6 +47,32 @@ module _ (d : ℕ) where
     pub none_left : n ≡ 0 → none ≡ days_give (each row 0 n) d
     unfolding last_row each
     none_left e = rw e refl
+
+  -- .. so it is the first such row from the end
+  abbrev passes : RowStruct → Bool
+  passes r = leb r.day.0 d
+
+  abbrev from_end : Optional RowStruct → Option ℕ → Option ℕ
+  from_end None so_far = so_far
+  from_end (Some r) so_far = some r.tolerance.0
+
+  found_from : (so_far : Option ℕ) (rows : List RowStruct) → from_end (find passes (reverse rows)) so_far ≡ last_row so_far (map row_of rows) d
+  unfolding last_row
+  found_from so_far [] = refl
+  found_from so_far (r ∷ rows) =
+      rw (reverse-append (r ∷ []) rows, find-append passes (reverse rows) (r ∷ [])) (go (passes r) (find passes (reverse rows)) ∙ found_from (cond (passes r) (some r.tolerance.0) so_far) rows)
+    where
+      go : (b : Bool) (o : Optional RowStruct) → from_end (option_or o (cond b (Some r) None)) so_far ≡ from_end o (cond b (some r.tolerance.0) so_far)
+      go true None = refl
+      go false None = refl
+      go b (Some q) = refl
+
+  pub last_found : (rows : List RowStruct) → option_by tolerance_of (option_map (λ r. r.tolerance) (find passes (reverse rows))) ≡ days_give (map row_of rows) d
+  last_found rows = tolerances (find passes (reverse rows)) ∙ found_from none rows
+    where
+      tolerances : (o : Optional RowStruct) → option_by tolerance_of (option_map (λ r. r.tolerance) o) ≡ from_end o none
+      tolerances None = refl
+      tolerances (Some r) = refl
 
 -- ---- what a table is asked for a day
 pub day_refused : (rows : List Row) (d k : ℕ) → load_refusal rows ≡ some k → turns_away k ≡ tolerance_answer rows d

@@ -1,22 +1,18 @@
-use mathlib.Core.Path.{sym, ◌∙◌}
-use native.Mathlib.Omega.{arith}
-use Rattle.table.proofs.Laws.Checking.{bad_all, bad_here, bad_on, bad_none}
+use Rattle.std.proofs.Common.{refl, sym, ◌∙◌}
+use Rattle.distance.specs.Options.{option_by}
+use Rattle.table.specs.Answers.{row_of}
+use Rattle.table.proofs.Laws.Checking.{bad_after, bad_end}
 use Rattle.table.proofs.some_bad_row.Goals as goal
-
-pub loop-i-init : goal.loop-i-init
-loop-i-init c = (omega arith, bad_all c.args.t c.args.n)
 
 pub returns-then-bad_row : goal.returns-then-bad_row
 returns-then-bad_row c =
-    let at = c.loop-i in
-    sym (at.invariant.1 ∙ bad_here c.args.t at.i _ (omega arith) (sym c.bad_row.ensures ∙ c.if-bad_row.true))
+    let next = bad_after (option_by row_of c.loop-row.before) c.args.rows.now c.loop-row.row-index c.loop-row-test.true in
+    sym (c.loop-row.invariant ∙ next ∙ rw (sym c.bad_row.ensures ∙ c.if-bad_row.true) refl)
 
-pub loop-i-preserved : goal.loop-i-preserved
-loop-i-preserved c =
-    let at = c.loop-i in
-    (omega arith, at.invariant.1 ∙ bad_on c.args.t at.i _ (omega arith) (sym c.bad_row.ensures ∙ c.if-bad_row.false))
+pub loop-row-preserved : goal.loop-row-preserved
+loop-row-preserved c =
+    let next = bad_after (option_by row_of c.loop-row.before) c.args.rows.now c.loop-row.row-index c.loop-row-test.true in
+    c.loop-row.invariant ∙ next ∙ rw (sym c.bad_row.ensures ∙ c.if-bad_row.false) refl
 
 pub returns : goal.returns
-returns c =
-    let at = c.loop-i in
-    sym (at.invariant.1 ∙ bad_none c.args.t at.i _ (omega arith))
+returns c = sym (c.loop-row.invariant ∙ bad_end (option_by row_of c.loop-row.before) c.args.rows.now c.loop-row.row-index c.loop-row-test.false)

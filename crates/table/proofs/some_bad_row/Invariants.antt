@@ -1,14 +1,10 @@
-use mathlib.Core.Path.{◌≡◌}
-use Prim.Native.Nat.{◌-◌, ◌≤◌}
-use mathlib.Core.Option.{none}
-use Rattle.format.specs.Format.{each}
+use Rattle.std.proofs.Common.{◌≡◌, map, drop}
+use Rattle.std.proofs.Math.Option.{none}
 use Rattle.record.specs.Checks.{some_bad_row}
-use Rattle.table.specs.Answers.{row_at}
-use Rattle.table.proofs.Laws.Checking.{bad_from}
+use Rattle.distance.specs.Options.{option_by}
+use Rattle.table.specs.Answers.{row_of}
 use Rattle.table.proofs.some_bad_row.Given as goal
 
-abbrev pub invariant-loop-i : goal.invariant-loop-i
-invariant-loop-i l = (l.i ≤ l.n) × (some_bad_row none (each (row_at l.t) 0 l.n) ≡ bad_from l.t l.i l.n)
-
-abbrev pub decreases-loop-i : goal.decreases-loop-i
-decreases-loop-i l = l.n - l.i
+abbrev pub invariant-loop-row : goal.invariant-loop-row
+invariant-loop-row l =
+    some_bad_row none (map row_of l.rows) ≡ some_bad_row (option_by row_of l.before) (map row_of (drop l.row-index l.rows))

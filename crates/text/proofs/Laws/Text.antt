@@ -1,27 +1,31 @@
 -- Laws of the listing's text: decimal numbers digit by digit, and how long the text can be.
-use Rattle.std.specs.Prelude.{◌≡◌, refl, Bool, true, false, List, [], ◌∷◌, ◌++◌, ℕ, zero, suc, ◌+◌, ◌*◌, ◌/◌, ◌%◌, ◌^◌, ◌<◌, ◌≤◌, T, length, get_or, take, drop, set, ℤ, pos, negsuc, nat_abs, ◌-ℤ◌}
-use Rattle.std.proofs.Common.{sym, ◌∙◌, ap, append-nil, append_assoc, arith, length-append, length-take-le, take-suc, pow-suc, add-one, Fits, SFits, lt-ltb, le-ltb, eq-eqb, ne_eqb}
+use Rattle.std.specs.Prelude.{◌≡◌, refl, Bool, true, false, List, [], ◌∷◌, ◌++◌, ℕ, zero, suc, ◌+◌, ◌*◌, ◌/◌, ◌%◌, ◌^◌, ◌<◌, ◌≤◌, length, take, drop, ℤ, pos, negsuc, nat_abs, T, get_or, set, ◌-ℤ◌}
+use Rattle.std.proofs.Common.{sym, ◌∙◌, ap, append-nil, append_assoc, arith, length-append, pow-suc, add-one, lt-ltb, le-ltb, eq-eqb, ne_eqb, length-take-le, take-suc, Fits, SFits}
 use Rattle.std.proofs.Math.Option.{Option, some, none}
-use Rattle.std.proofs.lemmas.List.Edits.{sets}
-use Rattle.std.specs.Int.Signed.{non_neg, lt_z}
-use Rattle.std.specs.Int.{w32, w64}
+use borrow.Rule.Slice.PartMut.{put_mid}
+use Rattle.std.proofs.lemmas.List.{drop-drop}
+use Rattle.std.proofs.lemmas.List.Edits.{sets, sets-eq}
+use Rattle.std.specs.Int.Signed.{lt_z, non_neg}
 use Rattle.distance.specs.Fix.{Fix, Bounded, widest}
 use Rattle.distance.specs.Silence.{silent}
 use Rattle.distance.specs.Integers.Order.{lt_z_false, zero_le}
-use Rattle.distance.specs.Integers.Bounds.{Bound, ◌⊝◌, of_width, fits, abs_bound}
+use Rattle.distance.specs.Integers.Bounds.{abs_bound, Bound, ◌⊝◌, of_width, fits}
 use Rattle.distance.specs.Integers.Tests.{Test, holds, fails, test}
 use Rattle.text.specs.Text.{space, line_end, fix_word, silence_word, digit, digits, decimal, integer, silence_text, fix_line, fix_lines, trail_word, never_word, refused_word, mark_text, first_line, refusal_line, record_text, text}
 use Rattle.record.specs.Checks.{read_refusal}
 use Rattle.reading.specs.Reading.{yields, moves, begins}
 use Rattle.record.proofs.Laws.Head.{accepted_head}
-use Rattle.reading.proofs.Laws.Reading.{yields_it, moves_to_next}
+use Rattle.record.proofs.Laws.First.{some_none, some_same}
+use Rattle.reading.proofs.Laws.Accepted.{yields_fix, yields_end}
+use Rattle.reading.proofs.Laws.Reading.{moves_to_next, yields_it}
 use Rattle.record.specs.Laws.Trail.{fix_in}
 use Rattle.record.proofs.Laws.Trail.{accepted_widest, fixes_from}
 use Rattle.format.proofs.Laws.Numbers.{false_true}
 use Rattle.format.specs.Format.{mark_field, count_field, fixes, each}
 use Rattle.format.proofs.Laws.Each.{each_more, all_at}
 use Rattle.format.proofs.Laws.Stores.{sets_then, sets_front}
-use Rattle.text.specs.Laws.Text.{Stored, closing_text, lines_in, lines_of, opening_of, opening_text, step_bounded, step_text}
+use Rattle.text.specs.Laws.Text.{Stored, closing_text, lines_in, lines_of, opening_of, opening_text, step_text, step_bounded}
+use Rattle.std.specs.Int.{w32, w64}
 
 pub stored_then : {b c d l m : List ℕ} {at r s : ℕ} → Stored b at c r l → Stored c r d s m → Stored b at d s (l ++ m)
 stored_then {b} {c} {d} {l} {m} {at} {r} {s} p q = record {
@@ -67,14 +71,6 @@ length_one n h = rw (decimal_one n h) refl
 pub length_last : (n : ℕ) → 10 ≤ n → length (decimal n) ≡ length (decimal (n / 10)) + 1
 length_last n h = ap length (decimal_last n h) ∙ length-append (decimal (n / 10)) (digit (n % 10) ∷ [])
 
--- stored: the only digit, and the last after the others
-pub store_one : (b : List ℕ) (at n : ℕ) → n < 10 → set b at (48 + n) ≡ sets b at (decimal n)
-store_one b at n h = rw (decimal_one n h) refl
-
-pub store_last : (b c : List ℕ) (at end n : ℕ) → 10 ≤ n → end ≡ at + length (decimal (n / 10)) → c ≡ sets b at (decimal (n / 10))
-    → set c end (48 + n % 10) ≡ sets b at (decimal n)
-store_last b c at end n h e f = rw (f, decimal_last n h) (sets_then b at (decimal (n / 10)) end (digit (n % 10) ∷ []) e)
-
 -- a number below 10 to the power of d has at most d digits
 pub decimal_short : (d n : ℕ) → n < 10 ^ suc d → length (decimal n) ≤ suc d
 decimal_short zero n h = omega (arith, length_one n h)
@@ -84,13 +80,36 @@ decimal_short (suc d) n h = go (test 10 n) (decimal_short d (n / 10))
     go (holds t) r = let p : n < 10 ^ suc d * 10 = rw (pow-suc 10 (suc d)) at h in omega (arith, length_last n t, r (omega arith))
     go (fails t) r = omega (arith, length_one n t)
 
--- a word stored byte by byte
+-- a number stored by its digits: the only one, and the last after the others
+pub store_one : (b : List ℕ) (at n : ℕ) → n < 10 → set b at (48 + n) ≡ sets b at (decimal n)
+store_one b at n h = rw (decimal_one n h) refl
+
+pub store_last : (b c : List ℕ) (at end n : ℕ) → 10 ≤ n → end ≡ at + length (decimal (n / 10)) → c ≡ sets b at (decimal (n / 10))
+    → set c end (48 + n % 10) ≡ sets b at (decimal n)
+store_last b c at end n h e f = rw (f, decimal_last n h) (sets_then b at (decimal (n / 10)) end (digit (n % 10) ∷ []) e)
+
+-- a word stored at once: what stood before it and behind it stays
+pub word_stored : (b w : List ℕ) (at : ℕ) → at + length w ≤ length b → {k : ℕ} {c : List ℕ} → k ≡ length w → c ≡ w → put_mid at k b c ≡ sets b at w
+word_stored b w at h e f = rw (e, f, drop-drop (length w) at b) (sym (sets-eq w b at h ∙ append_assoc (take at b) w (drop (at + length w) b)))
+
+-- .. or byte by byte
 pub store_word : (b w : List ℕ) (at k : ℕ) → k < length w → set (sets b at (take k w)) (at + k) (get_or w k 0) ≡ sets b at (take (k + 1) w)
 store_word b w at k h =
     let e : length (take k w) ≡ k = length-take-le k w (omega arith) in
     rw (add-one, take-suc w k 0 h) (sets_then b at (take k w) (at + k) (get_or w k 0 ∷ []) (rw e refl))
 
--- ---- a coordinate of 32 bits: a sign if it is below 0, and u is what stands after it
+-- ---- a coordinate: a sign if it is below 0, and its magnitude
+pub sign_below : (z : ℤ) → lt_z z (pos 0) ≡ true → integer z ≡ 45 ∷ decimal (nat_abs z)
+unfolding integer
+sign_below (pos n) h = absurd (false_true (sym (lt_z_false {x = pos n} {y = pos 0} (zero_le n)) ∙ h))
+sign_below (negsuc n) h = refl
+
+pub no_sign : (z : ℤ) → lt_z z (pos 0) ≡ false → integer z ≡ decimal (nat_abs z)
+unfolding integer
+no_sign (pos n) h = refl
+no_sign (negsuc n) h = absurd (false_true (sym h))
+
+-- where 32 bits hold it, what stands after the sign is a number that 32 bits hold too
 pub record SignFits (z : ℤ) : Type 0 where
   pub z32 : SFits w32 z
   pub z64 : SFits w64 z
@@ -210,6 +229,13 @@ text_parts b = go (read_refusal b)
     go none = refl
     go (some k) = sym (append-nil (refusal_line k))
 
+pub few_lines : (b : List ℕ) → lines_in b ≤ 4096
+few_lines b = go (read_refusal b) refl
+  where
+    go : (r : Option ℕ) → read_refusal b ≡ r → lines_of r (count_field b) ≤ 4096
+    go none e = (accepted_head b e).few_fixes
+    go (some k) e = omega arith
+
 -- where there is a line of a fix, the bytes are accepted ..
 accepted_line : (b : List ℕ) (k : ℕ) → k < lines_in b → read_refusal b ≡ none
 accepted_line b k h = go (read_refusal b) h
@@ -218,14 +244,7 @@ accepted_line b k h = go (read_refusal b) h
     go none l = refl
     go (some j) l = absurd (omega (arith, l))
 
-pub few_lines : (b : List ℕ) → lines_in b ≤ 4096
-few_lines b = go (read_refusal b) refl
-  where
-    go : (r : Option ℕ) → read_refusal b ≡ r → lines_of r (count_field b) ≤ 4096
-    go none e = (accepted_head b e).few_fixes
-    go (some k) e = omega arith
-
--- .. so a reader of them that has yielded k fixes yields fix k, and goes on to the next
+-- .. and a reader that has yielded k fixes, fewer than the text has lines of fixes, yields fix k and goes on to the next
 module _ (b : List ℕ) (k : ℕ) (line : k < lines_in b) where
   first_place : begins b + k ≡ k
   first_place = rw (accepted_line b k line) (omega arith)
@@ -248,10 +267,55 @@ module _ (b : List ℕ) (k : ℕ) (line : k < lines_in b) where
       let e : begins b + (k + 1) ≡ begins b + k + 1 = omega arith in
       rw (e, first_place) (let h = accepted_head b (accepted_line b k line) in moves_to_next b k (count_field b) h.known line_counted (omega arith) h.whole)
 
+-- a reader of accepted bytes ..
+module _ (b : List ℕ) (accepted : read_refusal b ≡ none) where
+  lines_counted : lines_in b ≡ count_field b
+  lines_counted = rw accepted refl
+
+  -- .. begins with no line put down
+  pub reader_begins : (ys : List ℕ) (p : ℕ) {at : ℕ} → at ≡ begins b → (at ≤ lines_in b) × LinesPut b ys p at p ys
+  reader_begins ys p e = rw (e, accepted) (omega arith, lines_begin b ys p)
+
+  -- .. yields fix k where it stands on it, and goes on to the next, ..
+  module _ (k : ℕ) (f : Fix) (e : some f ≡ yields b k) where
+    pub line_there : k < lines_in b
+    line_there = rw lines_counted (go (test (count_field b) k))
+      where
+        go : {t : Bool} → Test (count_field b) k t → k < count_field b
+        go (holds ended) = absurd (some_none (e ∙ (yields_end b k ended).0))
+        go (fails more) = more
+
+    pub yielded_is : f ≡ fix_in b k
+    yielded_is = some_same (e ∙ yields_fix b k (record { accepted = accepted }) (omega (arith, line_there, lines_counted)))
+
+    pub yielded_moves : moves b k ≡ k + 1
+    yielded_moves = let h = accepted_head b accepted in moves_to_next b k (count_field b) h.known (omega (arith, line_there, lines_counted)) (omega arith) h.whole
+
+    -- whose place is no further out than any kind's may be
+    pub yielded_bounded : Bounded widest f
+    yielded_bounded =
+        let w = (accepted_widest b (record { accepted = accepted })).bounded in
+        rw yielded_is
+        (all_at {P = Bounded widest} (fix_in b) (count_field b) k (rw (fixes_from b (accepted_head b accepted).some_fix) w)
+        (omega (arith, line_there, lines_counted)))
+
+  -- .. and yields none only behind the last
+  pub lines_ended : (k : ℕ) → none ≡ yields b k → k ≤ lines_in b → k ≡ lines_in b
+  lines_ended k e h = go (test (count_field b) k)
+    where
+      go : {t : Bool} → Test (count_field b) k t → k ≡ lines_in b
+      go (holds ended) = omega (arith, h, lines_counted)
+      go (fails more) = absurd (some_none (sym (e ∙ yields_fix b k (record { accepted = accepted }) more)))
+
 -- the three parts put down one after the other make the text
-pub text_put : {ys zs l m : List ℕ} {p end e : ℕ} (b : List ℕ) (r : Option ℕ) → r ≡ read_refusal b → Stored ys 0 zs p (opening_text b) → LinesPut b zs p (lines_in b) end l
-    → Stored l end m e (closing_text r) → Stored ys 0 m e (text b)
+pub text_put : {ys zs l m : List ℕ} {at p end e : ℕ} (b : List ℕ) (r : Option ℕ) → r ≡ read_refusal b → Stored ys at zs p (opening_text b) → LinesPut b zs p (lines_in b) end l
+    → Stored l end m e (closing_text r) → Stored ys at m e (text b)
 text_put b r told opened lines closed = let c = closed in rw (text_parts b) (stored_then opened (stored_then lines.stored (rw told at c)))
+
+-- .. and a refusal's line is all of it
+pub text_refused : (b : List ℕ) {k : ℕ} → read_refusal b ≡ some k → text b ≡ refusal_line k
+unfolding each fix_lines
+text_refused b h = text_parts b ∙ rw h (append-nil (refusal_line _))
 
 -- at the start of an output that is long enough
 pub listed : {b c l : List ℕ} {r : ℕ} (t : List ℕ) → t ≡ l → Stored b 0 c r l → r ≤ length b → (r ≡ length t) × (c ≡ t ++ drop r b)

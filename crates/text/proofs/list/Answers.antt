@@ -7,8 +7,8 @@ use Rattle.text.proofs.Laws.Text.{listed}
 use borrow.Author.Rules.{rules}
 use Rattle.text.proofs.list.Goals as goal
 
-pub returns : goal.returns
-returns c =
+pub returns-clause-text : goal.returns-clause-text
+returns-clause-text c =
     let e = c.put_text.ensures in
-    let t = listed (text c.args.b.now) refl e.0 (let l : 159765 ≤ length c.args.out.now = search rules in omega (arith, e.1)) in
-    (t.0, e.1, t.1)
+    let room : 159765 ≤ length c.args.out.now = search rules in
+    (listed (text c.args.b.now) refl e.text (omega (arith, e.short))).1

@@ -1,4 +1,4 @@
--- The list in centimetres: what it has where it has no fix, which no contract reads, and that its numbers fit.
+-- The numbers of a list in centimetres fit.
 use Rattle.std.specs.Prelude.{ℤ}
 use Rattle.std.specs.Int.{w16, w32}
 use Rattle.std.proofs.Common.{SFits, arith}

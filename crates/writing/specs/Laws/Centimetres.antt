@@ -1,4 +1,4 @@
--- The list in centimetres: what it has where it has no fix, which no contract reads, and that its numbers fit.
+-- The list in centimetres: what it has where it has no fix, which no contract reads.
 use Rattle.std.specs.Prelude.{pos}
 use Rattle.writing.specs.declared.CentimetreFix.{CentimetreFix}
 

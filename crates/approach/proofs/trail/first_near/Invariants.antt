@@ -1,4 +1,3 @@
-use Prim.Native.Nat.{◌-◌}
 use Rattle.distance.specs.Fix.{fix_of}
 use Rattle.format.specs.Kinds.{layout}
 use Rattle.distance.specs.Place.{point_of}
@@ -6,7 +5,4 @@ use Rattle.approach.proofs.Laws.Search.{Seek}
 use Rattle.approach.proofs.trail.first_near.Given as goal
 
 abbrev pub invariant-loop-k : goal.invariant-loop-k
-invariant-loop-k l = Seek (layout l.kind) l.b l.n (point_of l.c) l.r.0 (fix_of l.a) l.k
-
-abbrev pub decreases-loop-k : goal.decreases-loop-k
-decreases-loop-k l = l.n - l.k
+invariant-loop-k l = Seek (layout l.fixes.kind) l.fixes.bytes.now l.fixes.count (point_of l.c) l.r.0 (fix_of l.a) l.k

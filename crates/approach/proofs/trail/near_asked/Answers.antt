@@ -1,54 +1,57 @@
-use mathlib.Core.Path.{◌≡◌, sym, ◌∙◌}
+use mathlib.Core.Path.{◌≡◌, refl, sym, ◌∙◌, ap, subst}
 use mathlib.Core.List.{List}
-use Prim.Native.Nat.{ℕ, ◌<◌}
+use Prim.Native.Nat.{ℕ}
 use native.Mathlib.Omega.{arith}
-use Rattle.format.specs.Format.{count_field}
-use Rattle.record.proofs.Laws.Head.{Head}
-use Rattle.record.proofs.Laws.Accepted.{accepted_good}
+use Rattle.distance.specs.Fix.{Fix, fix_of}
 use Rattle.distance.specs.Place.{point_of}
+use Rattle.format.specs.Format.{kind_of, count_field}
+use Rattle.record.specs.Answers.{gives}
+use Rattle.record.specs.Checks.{IsAccepted}
+use Rattle.record.specs.Laws.Trail.{fix_in}
+use Rattle.record.proofs.Laws.Accepted.{accepted_good}
+use Rattle.approach.specs.Approach.{told_on, leg_near}
 use Rattle.approach.proofs.Laws.Checking.{Askable, near_passed, lone_gives, first_gives}
+use Rattle.approach.proofs.Laws.Search.{lone_leg}
 use Rattle.approach.proofs.trail.near_asked.Goals as goal
-use Rattle.approach.proofs.trail.near_asked.Goals.{After-first_near, Start, Then-n-eq1}
+use Rattle.approach.proofs.trail.near_asked.Goals.{After-at, Start}
 
-abbrev bytes : Start → List ℕ
-bytes s = s.args.b.now
+passed : (s : Start) → Askable s.args.b.now (point_of s.args.c) s.args.r.0
+passed s = near_passed s.args.b.now (point_of s.args.c) s.args.r.0 s.requires
 
-passed : (s : Start) → Askable (bytes s) (point_of s.args.c) s.args.r.0
-passed s = near_passed (bytes s) (point_of s.args.c) s.args.r.0 s.requires
+pub fixes_in-fixes-requires : goal.fixes_in-fixes-requires
+fixes_in-fixes-requires c = (passed (goal.at-fixes_in-fixes-requires c).Start).is_accepted
 
-head : (s : Start) → Head (bytes s)
-head s = (accepted_good (bytes s) (passed s).is_accepted).head
-
-pub kind_at-kind-requires : goal.kind_at-kind-requires
-kind_at-kind-requires c = (head (goal.at-kind_at-kind-requires c).Start).ten
-
-pub count_at-n-requires : goal.count_at-n-requires
-count_at-n-requires c = (head (goal.at-count_at-n-requires c).Start).ten
-
--- one fix, or more
-one : (c : Then-n-eq1) → count_field (bytes (goal.at-Then-n-eq1 c).Start) ≡ 1
-one c = sym c.count_at-n.ensures.0 ∙ c.if-n-eq1.true
+-- the lone fix is the record's
+alone : (c : After-at) → fix_of c.at.result ≡ fix_in c.args.b.now 0
+alone c = rw (c.fixes_in-fixes.ensures.kind_is, c.fixes_in-fixes.ensures.bytes_are) at c.at.ensures
 
 pub lone_near-requires : goal.lone_near-requires
 lone_near-requires c =
-    let s = (goal.at-lone_near-requires c).Start in
-    record { is_accepted = (passed s).is_accepted; kind = c.kind_at-kind.ensures; count = sym (one c); asked = (passed s).point_fits }
+    let p = passed (goal.at-lone_near-requires c).Start in
+    rw (alone c) (lone_leg (record { is_accepted = p.is_accepted; kind = refl; count = refl; asked = p.point_fits }))
 
-pub returns-then-n-eq1 : goal.returns-then-n-eq1
-returns-then-n-eq1 c =
-    let s = (goal.at-returns-then-n-eq1 c).Start in
-    c.lone_near.ensures ∙ rw c.kind_at-kind.ensures (sym (lone_gives (bytes s) (point_of s.args.c) s.args.r.0 s.requires (one (goal.at-returns-then-n-eq1 c).Then-n-eq1)))
+pub returns-then-fixes-eq1 : goal.returns-then-fixes-eq1
+returns-then-fixes-eq1 c =
+    let one = sym c.fixes_in-fixes.ensures.count_is ∙ c.if-fixes-eq1.true in
+    let told = ap (λ (f : Fix). told_on f.t 0 f f (leg_near f f (point_of c.args.c) c.args.r.0)) (alone (goal.at-returns-then-fixes-eq1 c).After-at) in
+    ap gives (c.lone_near.ensures ∙ told) ∙ sym (lone_gives c.args.b.now (point_of c.args.c) c.args.r.0 c.requires one)
 
 pub first_near-requires : goal.first_near-requires
 first_near-requires c =
-    let s = (goal.at-first_near-requires c).Start in
-    record { is_accepted = (passed s).is_accepted; kind = c.kind_at-kind.ensures; count = c.count_at-n.ensures.0; asked = (passed s).point_fits }
+    let p = passed (goal.at-first_near-requires c).Start in
+    let f = c.fixes_in-fixes.ensures in
+    let e = sym f.bytes_are in
+    record {
+      is_accepted = subst (λ (b : List ℕ). IsAccepted b) e p.is_accepted;
+      kind = f.kind_is ∙ ap kind_of e;
+      count = f.count_is ∙ ap count_field e;
+      asked = p.point_fits;
+    }
 
 pub returns : goal.returns
 returns c =
-    let s = (goal.at-returns c).Start in
-    let n = c.count_at-n.ensures.0 in
-    c.first_near.ensures ∙ rw (c.kind_at-kind.ensures, n) (sym (first_gives (bytes s) (point_of s.args.c) s.args.r.0 s.requires (more c)))
-  where
-    more : (c : After-first_near) → 1 < count_field (bytes (goal.at-returns c).Start)
-    more c = let s = (goal.at-returns c).Start in omega (arith, (head s).some_fix, c.count_at-n.ensures.0, c.if-n-eq1.false)
+    let p = passed (goal.at-returns c).Start in
+    let f = c.fixes_in-fixes.ensures in
+    let some = (accepted_good c.args.b.now p.is_accepted).head.some_fix in
+    ap gives c.first_near.ensures
+    ∙ rw (f.kind_is, f.count_is, f.bytes_are) (sym (first_gives c.args.b.now (point_of c.args.c) c.args.r.0 c.requires (omega (arith, some, f.count_is, c.if-fixes-eq1.false))))

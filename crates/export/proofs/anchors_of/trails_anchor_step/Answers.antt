@@ -8,4 +8,4 @@ use Rattle.export.proofs.anchors_of.trails_anchor_step.Goals as goal
 pub returns : goal.returns
 returns c =
     let a = c.args in
-    (c.anchored_of.ensures ∙ anchored_read a.s _ (Step a.x a.y) c.read-a.result c.state_of.ensures c.read-a.ensures, nothing_lost (state_of a.s) (Step a.x a.y) _ refl)
+    (c.anchored_of.ensures ∙ anchored_read a.s _ (Step a.x a.y) c.read.result c.from.ensures (c.read.ensures.answer, c.read.ensures.state, c.read.ensures.exact), nothing_lost (state_of a.s) (Step a.x a.y) _ refl)

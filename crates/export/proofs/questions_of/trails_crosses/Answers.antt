@@ -11,8 +11,8 @@ use Rattle.export.proofs.questions_of.trails_crosses.Goals as goal
 pub returns : goal.returns
 returns c =
     let a = c.args in
-    let w = c.window.ensures in
-    let e = c.edges.ensures
+    let w = c.window-w.ensures in
+    let e = c.edges-e.ensures
     ∙ same_box (to_z-of_z {w = w32} {z = a.left} (search rules)) (to_z-of_z {w = w32} {z = a.right} (search rules)) (to_z-of_z {w = w32} {z = a.bottom} (search rules)) (to_z-of_z {w = w32} {z = a.top} (search rules)) in
     let b = a.b.now in
-    (c.crossing_of.ensures ∙ ap crossing_numbers (c.crosses-c.ensures.0 ∙ same_asked (cross_answer b) w.0 w.1 e), cross_means b _ _ _)
+    (c.from.ensures ∙ ap crossing_numbers (c.crosses.ensures.answer ∙ same_asked (cross_answer b) w.0 w.1 e), cross_means b _ _ _)

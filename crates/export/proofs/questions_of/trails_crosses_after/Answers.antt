@@ -13,10 +13,10 @@ returns c =
     let w = c.window.ensures in
     let e = c.edges.ensures
     ∙ same_box (to_z-of_z {w = w32} {z = a.left} (search rules)) (to_z-of_z {w = w32} {z = a.right} (search rules)) (to_z-of_z {w = w32} {z = a.bottom} (search rules)) (to_z-of_z {w = w32} {z = a.top} (search rules)) in
-    let done = c.crosses_after-c.ensures in
+    let done = c.crosses_after.ensures in
     let b = a.b.now in
     let calls = calls_of a.tables.now a.calls.now in (
-      c.crossing_of.ensures ∙ ap crossing_numbers (done.0 ∙ same_asked (after_answer b calls) w.0 w.1 e),
+      c.from.ensures ∙ ap crossing_numbers (done.0 ∙ same_asked (after_answer b calls) w.0 w.1 e),
       done.1 ∙ same_asked (left_after b calls) w.0 w.1 e,
       done.2,
     )

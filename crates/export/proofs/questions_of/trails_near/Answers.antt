@@ -14,4 +14,4 @@ returns c =
     let a = c.args in
     let p = c.point.ensures ∙ same_point (to_z-of_z {w = w32} {z = a.x} (search rules)) (to_z-of_z {w = w32} {z = a.y} (search rules)) in
     let b = a.b.now in
-    (c.approach_of.ensures ∙ ap approach_numbers (c.near-c.ensures.0 ∙ ap (λ (q : Point). near_answer b q a.radius) p), near_answer_means b _ _)
+    (c.from.ensures ∙ ap approach_numbers (c.near.ensures.answer ∙ ap (λ (q : Point). near_answer b q a.radius) p), near_answer_means b _ _)

@@ -12,10 +12,10 @@ pub returns : goal.returns
 returns c =
     let a = c.args in
     let p = c.point.ensures ∙ same_point (to_z-of_z {w = w32} {z = a.x} (search rules)) (to_z-of_z {w = w32} {z = a.y} (search rules)) in
-    let done = c.near_after-c.ensures in
+    let done = c.near_after.ensures in
     let b = a.b.now in
     let calls = calls_of a.tables.now a.calls.now in (
-      c.approach_of.ensures ∙ ap approach_numbers (done.0 ∙ ap (λ (q : Point). near_after_answer b calls q a.radius) p),
+      c.from.ensures ∙ ap approach_numbers (done.0 ∙ ap (λ (q : Point). near_after_answer b calls q a.radius) p),
       done.1 ∙ ap (λ (q : Point). near_left_after b calls q a.radius) p,
       done.2,
     )

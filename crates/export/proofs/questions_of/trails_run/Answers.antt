@@ -4,5 +4,5 @@ use Rattle.export.proofs.questions_of.trails_run.Goals as goal
 
 pub returns : goal.returns
 returns c =
-    let done = c.call_all-r.ensures in
-    (c.run_of.ensures ∙ ap run_numbers done.0, done.1)
+    let done = c.call_all.ensures in
+    (c.from.ensures ∙ ap run_numbers done.0, done.1)

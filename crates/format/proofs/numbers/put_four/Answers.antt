@@ -1,16 +1,7 @@
-use native.Mathlib.Omega.{arith}
-use lib.ListN.{length-set}
-use Rattle.format.proofs.Laws.Stores.{four_stores}
+use Rattle.std.proofs.Common.{◌∙◌, ap}
+use Rattle.std.proofs.lemmas.List.Edits.{sets}
+use Rattle.format.proofs.Laws.Numbers.{four_written}
 use Rattle.format.proofs.numbers.put_four.Goals as goal
 
-pub bounds-out-at-2 : goal.bounds-out-at-2
-bounds-out-at-2 c = simp length-set (omega arith)
-
-pub bounds-out-at-3 : goal.bounds-out-at-3
-bounds-out-at-3 c = simp length-set (omega arith)
-
-pub bounds-out-at-4 : goal.bounds-out-at-4
-bounds-out-at-4 c = simp length-set (omega arith)
-
 pub returns : goal.returns
-returns c = four_stores _ _ _
+returns c = c.put.ensures ∙ ap (sets c.args.out.now c.args.at) (c.to_le_bytes.ensures ∙ four_written c.args.n)

@@ -1,10 +1,7 @@
-use native.Mathlib.Omega.{arith}
-use lib.ListN.{length-set}
-use Rattle.format.proofs.Laws.Stores.{two_stores}
+use Rattle.std.proofs.Common.{◌∙◌, ap}
+use Rattle.std.proofs.lemmas.List.Edits.{sets}
+use Rattle.format.proofs.Laws.Numbers.{two_written, two_of_more}
 use Rattle.format.proofs.numbers.put_two.Goals as goal
 
-pub bounds-out-at-2 : goal.bounds-out-at-2
-bounds-out-at-2 c = simp length-set (omega arith)
-
 pub returns : goal.returns
-returns c = two_stores _ _ _
+returns c = c.put.ensures ∙ ap (sets c.args.out.now c.args.at) (c.to_le_bytes.ensures ∙ two_written _ ∙ two_of_more c.args.n)

@@ -9,11 +9,11 @@ returns-then-n-lt65536 c =
     let s = c in
     let is = sym (is_tolerance s.args.tables.now s.args.n c.if-n-lt65536.true) in
     let done = c.age.ensures in
-    (done.0 ∙ ap (answered s.args.b.now) is, done.1 ∙ ap (left_by s.args.b.now) is)
+    (done.answer ∙ ap (answered s.args.b.now) is, done.bytes ∙ ap (left_by s.args.b.now) is)
 
 pub returns : goal.returns
 returns c =
     let s = c in
     let is = ap (by_days (s.args.n % 65536)) c.lent-t.ensures ∙ sym (is_days s.args.tables.now s.args.n c.if-n-lt65536.false) in
     let done = c.age_by_days.ensures in
-    (done.0 ∙ ap (answered s.args.b.now) is, done.1 ∙ ap (left_by s.args.b.now) is)
+    (done.answer ∙ ap (answered s.args.b.now) is, done.bytes ∙ ap (left_by s.args.b.now) is)

@@ -1,9 +1,10 @@
-use mathlib.Core.Path.{sym, ◌∙◌, ap}
+use mathlib.Core.Path.{sym, ◌∙◌}
 use mathlib.Core.List.{List}
 use mathlib.Core.Option.{Option}
 use Prim.Native.Nat.{ℕ}
 use Rattle.format.proofs.Laws.RoundTrip.{AreBytes, are_bytes}
-use Rattle.record.specs.Answers.{refused}
+use Rattle.record.proofs.Laws.Answers.{turned_away}
+use Rattle.legs.specs.Answers.{meeting}
 use Rattle.distance.specs.Fix.{Fix}
 use Rattle.legs.specs.declared.Fraction.{Fraction}
 use Rattle.crossing.specs.Answers.{box_of}
@@ -27,17 +28,17 @@ cross_tells s l = first_crossing l (box_of s.args.e) s.args.w.start.0 s.args.w.e
 pub cross_asked-requires : goal.cross_asked-requires
 cross_asked-requires c =
     let s = (goal.at-cross_asked-requires c).Start in
-    not_refused_after (cross_asks s) (crossing_alike _ _ (box_of s.args.e)) s.args.b.now _ (calls_of s.args.tables.now s.args.calls.now) (all_bytes (goal.at-cross_asked-requires c).After-slice_known-1) (sym c.cross_says-v.ensures ∙ ap refused c.in-Accepted.is) c.call_each.ensures.1
+    not_refused_after (cross_asks s) (crossing_alike _ _ (box_of s.args.e)) s.args.b.now _ (calls_of s.args.tables.now s.args.calls.now) (all_bytes (goal.at-cross_asked-requires c).After-slice_known-1) (sym c.in_ok-cross_says.ensures) c.call_each.ensures.1
 
-pub returns-in-Refused : goal.returns-in-Refused
-returns-in-Refused c =
-    let s = (goal.at-returns-in-Refused c).Start in
-    let said = refused_after (cross_asks s) (crossing_alike _ _ (box_of s.args.e)) (cross_tells s) s.args.b.now (calls_of s.args.tables.now s.args.calls.now) _ (sym c.cross_says-v.ensures ∙ ap refused c.in-Refused.is) in
-    (said.0, said.1, λ a m. claim s.args.b.now (calls_of s.args.tables.now s.args.calls.now) (all_bytes (goal.at-returns-in-Refused c).After-slice_known-1) a m)
+pub returns-in_err-cross_says : goal.returns-in_err-cross_says
+returns-in_err-cross_says c =
+    let s = (goal.at-returns-in_err-cross_says c).Start in
+    let said = refused_after (cross_asks s) (crossing_alike _ _ (box_of s.args.e)) (cross_tells s) s.args.b.now (calls_of s.args.tables.now s.args.calls.now) _ (sym c.in_err-cross_says.ensures) in
+    (turned_away meeting c.from_residual.result _ c.from_residual.ensures.1 ∙ said.0, said.1, λ a m. claim s.args.b.now (calls_of s.args.tables.now s.args.calls.now) (all_bytes (goal.at-returns-in_err-cross_says c).After-slice_known-1) a m)
 
-pub returns-in-Accepted : goal.returns-in-Accepted
-returns-in-Accepted c =
-    let s = (goal.at-returns-in-Accepted c).Start in
-    let bytes = all_bytes (goal.at-returns-in-Accepted c).After-slice_known-1 in
-    let said = made_after (cross_asks s) (crossing_alike _ _ (box_of s.args.e)) (cross_tells s) s.args.b.now _ (calls_of s.args.tables.now s.args.calls.now) _ bytes (sym c.cross_says-v.ensures ∙ ap refused c.in-Accepted.is) c.call_each.ensures.1 c.cross_asked.ensures in
+pub returns : goal.returns
+returns c =
+    let s = (goal.at-returns c).Start in
+    let bytes = all_bytes (goal.at-returns c).After-slice_known-1 in
+    let said = made_after (cross_asks s) (crossing_alike _ _ (box_of s.args.e)) (cross_tells s) s.args.b.now _ (calls_of s.args.tables.now s.args.calls.now) _ bytes (sym c.in_ok-cross_says.ensures) c.call_each.ensures.1 c.cross_asked.ensures in
     (said.0, said.1, λ a m. claim s.args.b.now (calls_of s.args.tables.now s.args.calls.now) bytes a m)

@@ -1,9 +1,10 @@
-use mathlib.Core.Path.{sym, ◌∙◌, ap}
+use mathlib.Core.Path.{sym, ◌∙◌}
 use mathlib.Core.List.{List}
 use mathlib.Core.Option.{Option}
 use Prim.Native.Nat.{ℕ}
 use Rattle.format.proofs.Laws.RoundTrip.{AreBytes, are_bytes}
-use Rattle.record.specs.Answers.{refused}
+use Rattle.record.proofs.Laws.Answers.{turned_away}
+use Rattle.approach.specs.Answers.{told}
 use Rattle.distance.specs.Fix.{Fix}
 use Rattle.approach.specs.declared.Approach.{Approach}
 use Rattle.distance.specs.Place.{point_of}
@@ -27,17 +28,17 @@ near_tells s l = first_near l (point_of s.args.c) s.args.r.0
 pub near_asked-requires : goal.near_asked-requires
 near_asked-requires c =
     let s = (goal.at-near_asked-requires c).Start in
-    not_refused_after (near_asks s) (near_alike (point_of s.args.c) s.args.r.0) s.args.b.now _ (calls_of s.args.tables.now s.args.calls.now) (all_bytes (goal.at-near_asked-requires c).After-slice_known-1) (sym c.near_says-v.ensures ∙ ap refused c.in-Accepted.is) c.call_each.ensures.1
+    not_refused_after (near_asks s) (near_alike (point_of s.args.c) s.args.r.0) s.args.b.now _ (calls_of s.args.tables.now s.args.calls.now) (all_bytes (goal.at-near_asked-requires c).After-slice_known-1) (sym c.in_ok-near_says.ensures) c.call_each.ensures.1
 
-pub returns-in-Refused : goal.returns-in-Refused
-returns-in-Refused c =
-    let s = (goal.at-returns-in-Refused c).Start in
-    let said = refused_after (near_asks s) (near_alike (point_of s.args.c) s.args.r.0) (near_tells s) s.args.b.now (calls_of s.args.tables.now s.args.calls.now) _ (sym c.near_says-v.ensures ∙ ap refused c.in-Refused.is) in
-    (said.0, said.1, λ a m. claim s.args.b.now (calls_of s.args.tables.now s.args.calls.now) (all_bytes (goal.at-returns-in-Refused c).After-slice_known-1) a m)
+pub returns-in_err-near_says : goal.returns-in_err-near_says
+returns-in_err-near_says c =
+    let s = (goal.at-returns-in_err-near_says c).Start in
+    let said = refused_after (near_asks s) (near_alike (point_of s.args.c) s.args.r.0) (near_tells s) s.args.b.now (calls_of s.args.tables.now s.args.calls.now) _ (sym c.in_err-near_says.ensures) in
+    (turned_away told c.from_residual.result _ c.from_residual.ensures.1 ∙ said.0, said.1, λ a m. claim s.args.b.now (calls_of s.args.tables.now s.args.calls.now) (all_bytes (goal.at-returns-in_err-near_says c).After-slice_known-1) a m)
 
-pub returns-in-Accepted : goal.returns-in-Accepted
-returns-in-Accepted c =
-    let s = (goal.at-returns-in-Accepted c).Start in
-    let bytes = all_bytes (goal.at-returns-in-Accepted c).After-slice_known-1 in
-    let said = made_after (near_asks s) (near_alike (point_of s.args.c) s.args.r.0) (near_tells s) s.args.b.now _ (calls_of s.args.tables.now s.args.calls.now) _ bytes (sym c.near_says-v.ensures ∙ ap refused c.in-Accepted.is) c.call_each.ensures.1 c.near_asked.ensures in
+pub returns : goal.returns
+returns c =
+    let s = (goal.at-returns c).Start in
+    let bytes = all_bytes (goal.at-returns c).After-slice_known-1 in
+    let said = made_after (near_asks s) (near_alike (point_of s.args.c) s.args.r.0) (near_tells s) s.args.b.now _ (calls_of s.args.tables.now s.args.calls.now) _ bytes (sym c.in_ok-near_says.ensures) c.call_each.ensures.1 c.near_asked.ensures in
     (said.0, said.1, λ a m. claim s.args.b.now (calls_of s.args.tables.now s.args.calls.now) bytes a m)

@@ -1,49 +1,26 @@
-use Prim.Native.Nat.{suc}
-use mathlib.Core.Path.{◌≡◌}
-use native.Mathlib.Omega.{arith}
+use mir.Facts.{to_z-of_z}
+use mir.Syntax.{w32}
+use mir.Val.{SFits}
+use borrow.Author.Rules.{rules}
 use Rattle.distance.specs.Fix.{Fix}
-use Rattle.format.specs.Kinds.{layout}
-use Rattle.format.specs.Format.{fix_at}
-use Rattle.format.proofs.Laws.Kinds.{longer}
-use Rattle.reading.proofs.Laws.Columns.{puts_none, puts_more, keeps_length}
+use Rattle.format.specs.Fixes.{nth}
+use Rattle.reading.proofs.Laws.Columns.{puts_none, puts_more}
 use Rattle.reading.proofs.all.fill.Goals as goal
 
 pub loop-k-init : goal.loop-k-init
-loop-k-init c = (omega arith, puts_none _ _ _, puts_none _ _ _, puts_none _ _ _, puts_none _ _ _)
-
-pub fix_at-f-requires : goal.fix_at-f-requires
-fix_at-f-requires c =
-    let s = c in
-    omega (arith, longer (layout s.args.kind) (suc c.loop-k.k) s.args.n (omega arith))
+loop-k-init c = record { times = puts_none _ _ _; xs = puts_none _ _ _; ys = puts_none _ _ _; silences = puts_none _ _ _ }
 
 pub loop-k-preserved : goal.loop-k-preserved
 loop-k-preserved c =
     let at = c.loop-k in
     let i = at.invariant in
-    let s = c in
-    let f = fix_at (layout s.args.kind) s.args.b.now in
-    let e = c.fix_at-f.ensures in (
-      omega arith,
-      puts_more (λ (a : Fix). a.t) f s.args.ts.now at.ts _ _ at.k e i.1 c.put_time.ensures,
-      puts_more (λ (a : Fix). a.x) f s.args.xs.now at.xs _ _ at.k e i.2 c.put_coordinate.ensures,
-      puts_more (λ (a : Fix). a.y) f s.args.ys.now at.ys _ _ at.k e i.3 c.put_coordinate-in-loop-k.ensures,
-      puts_more (λ (a : Fix). a.silence) f s.args.silences.now at.silences _ _ at.k e i.4 c.put_silence.ensures,
-    )
-
-pub shape_of-ts : goal.shape_of-ts
-shape_of-ts c = keeps_length _ _ c.loop-k.invariant.1
-
-pub shape_of-xs : goal.shape_of-xs
-shape_of-xs c = keeps_length _ _ c.loop-k.invariant.2
-
-pub shape_of-ys : goal.shape_of-ys
-shape_of-ys c = keeps_length _ _ c.loop-k.invariant.3
-
-pub shape_of-silences : goal.shape_of-silences
-shape_of-silences c = keeps_length _ _ c.loop-k.invariant.4
-
-pub returns : goal.returns
-returns c =
-    let i = c.loop-k.invariant in
-    let e : c.loop-k.k ≡ c.args.n = omega arith in
-    rw (← e) (i.1, i.2, i.3, i.4)
+    let a = c.args in
+    let f = nth a.fixes in
+    let x : SFits w32 c.at-f.result.x.0 = search rules in
+    let y : SFits w32 c.at-f.result.y.0 = search rules in
+    let e = c.at-f.ensures in record {
+      times = puts_more (λ (a : Fix). a.t) f a.ts.now at.ts _ _ at.k e i.times c.put.ensures;
+      xs = puts_more (λ (a : Fix). a.x) f a.xs.now at.xs _ _ at.k e i.xs (simp (to_z-of_z, x) at c.put-in-loop-k.ensures);
+      ys = puts_more (λ (a : Fix). a.y) f a.ys.now at.ys _ _ at.k e i.ys (simp (to_z-of_z, y) at c.put-in-loop-k-2.ensures);
+      silences = puts_more (λ (a : Fix). a.silence) f a.silences.now at.silences _ _ at.k e i.silences c.put-in-loop-k-3.ensures;
+    }

@@ -18,5 +18,5 @@ returns-then-stands c =
     let b = c.args.b.now in
     ap some (rw c.kind_at.ensures at c.fix_at.ensures) ∙ sym (yields_some b _ (sym c.stands.ensures ∙ c.if-stands.true))
 
-pub returns : goal.returns
-returns c = sym (yields_none c.args.b.now _ (sym c.stands.ensures ∙ c.if-stands.false))
+pub returns-else-stands : goal.returns-else-stands
+returns-else-stands c = sym (yields_none c.args.b.now _ (sym c.stands.ensures ∙ c.if-stands.false))

@@ -17,5 +17,5 @@ overflow_add-result c =
 pub returns-then-stands : goal.returns-then-stands
 returns-then-stands c = sym (moves_on c.args.b.now _ (sym c.stands.ensures ∙ c.if-stands.true))
 
-pub returns : goal.returns
-returns c = sym (moves_not c.args.b.now _ (sym c.stands.ensures ∙ c.if-stands.false))
+pub returns-else-stands : goal.returns-else-stands
+returns-else-stands c = sym (moves_not c.args.b.now _ (sym c.stands.ensures ∙ c.if-stands.false))

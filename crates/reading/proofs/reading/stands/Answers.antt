@@ -1,24 +1,42 @@
 use mathlib.Core.Path.{◌≡◌, sym, ◌∙◌}
+use mathlib.Core.Bool.{true}
 use Prim.Native.Nat.{suc}
 use native.Mathlib.Numerals.{add-one}
 use native.Mathlib.Omega.{arith}
-use Rattle.format.specs.Format.{kind_of, record_length}
+use lib.ListN.{length}
+use borrow.Author.Tests.{ltb-true, ltb-false, leb-true}
+use Rattle.format.specs.Kinds.{kinds, coded}
+use Rattle.format.specs.Format.{kind_field, kind_of, record_length}
+use Rattle.format.proofs.Laws.Numbers.{false_true}
 use Rattle.reading.proofs.Laws.Reading.{stands_short, stands_unknown, stands_past, stands_if}
 use Rattle.reading.proofs.reading.stands.Goals as goal
+use Rattle.reading.proofs.reading.stands.Goals.{then-b-ge10, else-b-ge10, then-known_kind, else-known_kind}
 
-pub returns-then-b-lt10 : goal.returns-then-b-lt10
-returns-then-b-lt10 c = sym (stands_short c.args.b.now _ (omega (arith, c.if-b-lt10.true)))
+pub returns-then-k-count_at : goal.returns-then-k-count_at
+returns-then-k-count_at c =
+    let b = c.args.b.now in
+    let e : c.record_length.result ≡ record_length (kind_of b) (suc c.args.k) = rw (c.kind_at.ensures, add-one) at c.record_length.ensures in
+    elim c.if-known_kind.branch [
+      | then-known_kind w ↦
+          let known : coded kinds (kind_field b) ≡ true = elim c.if-b-ge10.branch [
+            | then-b-ge10 v ↦ sym v.known_kind.ensures ∙ sym v.value-is ∙ w.if-known_kind.true
+            | else-b-ge10 v ↦ absurd (omega (arith, leb-true 10 (length b) (sym v.value-is ∙ w.if-known_kind.true), v.if-b-ge10.false))
+          ] in
+          let h = ltb-true c.args.k w.count_at.result (sym w.value-is ∙ c.if-k-count_at.true) in
+          rw e (sym (stands_if b c.args.k known (omega (arith, h, w.count_at.ensures.0))))
+      | else-known_kind w ↦ absurd (false_true (sym w.if-known_kind.false ∙ sym w.value-is ∙ c.if-k-count_at.true))
+    ]
 
-pub returns-then-not-known_kind : goal.returns-then-not-known_kind
-returns-then-not-known_kind c = sym (stands_unknown c.args.b.now _ (sym c.known_kind.ensures ∙ c.if-not-known_kind.true))
-
-pub returns-then-count_at-k : goal.returns-then-count_at-k
-returns-then-count_at-k c = sym (stands_past c.args.b.now _ (omega (arith, c.count_at.ensures.0)))
-
-pub returns : goal.returns
-returns c =
-    let s = c in
-    let b = s.args.b.now in
-    let e : c.record_length.result ≡ record_length (kind_of b) (suc s.args.k) = rw (c.kind_at.ensures, add-one) at c.record_length.ensures in
-    let known = sym c.known_kind.ensures ∙ c.if-not-known_kind.false in
-    rw e (sym (stands_if b s.args.k known (omega (arith, c.count_at.ensures.0))))
+pub returns-else-k-count_at : goal.returns-else-k-count_at
+returns-else-k-count_at c =
+    let b = c.args.b.now in
+    c.if-k-count_at.false
+    ∙ sym (elim c.if-known_kind.branch [
+      | then-known_kind w ↦
+          let h = ltb-false c.args.k w.count_at.result (sym w.value-is ∙ c.if-k-count_at.false) in
+          stands_past b c.args.k (omega (arith, h, w.count_at.ensures.0))
+      | else-known_kind w ↦ elim c.if-b-ge10.branch [
+        | then-b-ge10 v ↦ stands_unknown b c.args.k (sym v.known_kind.ensures ∙ sym v.value-is ∙ w.if-known_kind.false)
+        | else-b-ge10 v ↦ stands_short b c.args.k (omega (arith, v.if-b-ge10.false))
+      ]
+    ])

@@ -1,8 +1,0 @@
-use mathlib.Core.Path.{refl}
-use Rattle.export.proofs.anchors_of.state_numbers.Goals as goal
-
-pub returns-then-s : goal.returns-then-s
-returns-then-s c = rw c.if-s.true refl
-
-pub returns : goal.returns
-returns c = rw c.if-s.false refl

@@ -1,0 +1,5 @@
+use Rattle.record.proofs.Laws.Head.{head_none}
+use Rattle.record.proofs.checking.fixes_in.Goals as goal
+
+pub fixes_of-requires : goal.fixes_of-requires
+fixes_of-requires c = head_none c.args.b.now c.requires.accepted

@@ -1,1 +1,0 @@
--- The list in millimetres: what it has where it has no fix, which no contract reads.
