@@ -87,8 +87,10 @@ fn inside_near(p: Vector, m: Vector, foot: Part, r: Radius) -> Option<Part>
     .then_some(foot)
 }
 
+// The three are made a part of the search, so that no pass is put together in memory.
 impl Pass {
     // A leg with no silence: its start, its end, or the foot of the perpendicular between them.
+    #[inline(always)]
     fn heard_near(self) -> Option<Part>
         ensures { nearing result
             ≡ near_part
@@ -116,6 +118,7 @@ impl Pass {
     }
 
     // A silent leg: the nearer of its two ends, the start if they are as near.
+    #[inline(always)]
     fn silent_near(self) -> Option<Part>
         ensures { nearing result
             ≡ near_part
@@ -132,7 +135,7 @@ impl Pass {
         end_near(q, self.r, 1)
     }
 
-    // Where on the leg the cart is closest to the point, if that is within the radius. It is made a part of the search, so that no pass is put together in memory.
+    // Where on the leg the cart is closest to the point, if that is within the radius.
     #[inline(always)]
     pub(crate) fn leg_near(self) -> Option<Part>
         ensures { nearing result ≡ leg_near (fix_of self.a) (fix_of self.b) (point_of self.c) self.r.0 }

@@ -56,7 +56,7 @@ pub fn write_dearest(n: usize, out: &mut [u8]) -> Result<u32, Refusal>
     ensures answer { wrote result ≡ dearest_answer n out.old }
     ensures bytes { out.new ≡ dearest_written n out.old }
 {
-    let length = writing::begin_record(Kind::Trail, n, Ok(()), out)?;
+    let length = writing::begin_record::<Refusal>(Kind::Trail, n, Ok(()), out)?;
     put_dearest(n, out);
     Ok(length)
 }

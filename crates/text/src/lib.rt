@@ -1,11 +1,12 @@
 // The listing: a record as text.
 #![tactic(auto)]
 
-ghost use Rattle.std.specs.Prelude.{◌≡◌, ◌∷◌, [], ◌++◌, ◌≤◌, ◌<◌, length, drop};
+ghost use Rattle.std.specs.Prelude.{◌≡◌, ◌∷◌, [], ◌++◌, ◌+◌, ◌≤◌, ◌<◌, length, drop};
 ghost use Rattle.std.proofs.Math.Option.{none};
 ghost use Rattle.distance.specs.Fix.{fix_of, Bounded, widest};
 ghost use Rattle.text.specs.Text.{decimal, integer, silence_text, fix_line, mark_text, first_line, refusal_line, text};
 ghost use Rattle.text.specs.Listing.{HasRoom, Adds, AddsAtMost};
+ghost use Rattle.text.specs.Laws.Text.{Stored};
 ghost use Rattle.reading.specs.Reading.{begins};
 ghost use Rattle.record.specs.Answers.{number_of};
 ghost use Rattle.record.specs.Checks.{read_refusal};
@@ -14,6 +15,21 @@ use distance::{Coordinate, Fix, silent};
 use format::{count_at, mark_at};
 use reading::{Reader, read, said};
 use record::Refusal;
+
+// The digits of a number from a position on, and where they end: those before the last, by itself, and then the last. No method of the listing, so that
+// the position goes from digit to digit by value: kept in the listing, it would be stored and read again for each, and a listing took half as long again.
+fn put_digits(out: &mut [u8], at: usize, n: u32) -> usize
+    requires { at + length (decimal n) ≤ length out.old }
+    ensures { Stored out.old at out.new result (decimal n) }
+{
+    if n < 10 {
+        out[at] = b'0' + n as u8;
+        return at + 1;
+    }
+    let end = put_digits(out, at, n / 10);
+    out[end] = b'0' + (n % 10) as u8;
+    end + 1
+}
 
 // The text that is put down: it stands at the start of an output, and ends where the next goes.
 #[derive(Drop)]
@@ -44,16 +60,13 @@ impl<'a> Listing<'a> {
         self.end = end;
     }
 
-    // A number in decimal: the digits before the last, by itself, and then the last.
+    // A number in decimal.
     fn put_decimal(&mut self, n: u32)
         requires { HasRoom self.old (length (decimal n)) }
         ensures text { Adds self.old self.new (decimal n) }
         ensures same_output { self.new.out.ghost_name ≡ self.old.out.ghost_name }
     {
-        if 10 <= n {
-            self.put_decimal(n / 10);
-        }
-        self.put_byte(b'0' + (n % 10) as u8);
+        self.end = put_digits(self.out, self.end, n);
     }
 
     // A coordinate, with a minus sign before it if it is below 0.

@@ -1,4 +1,5 @@
 -- What is proved of the definitions, each law once.
+pub mod Answers
 pub mod Writing
 pub mod ReadsBack
 pub mod Lent

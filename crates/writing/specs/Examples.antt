@@ -11,7 +11,7 @@ use Rattle.format.specs.Examples.{document_bytes, document_fixes, millimetre_byt
 use Rattle.record.specs.Checks.{first, sentence, some_outside, some_early_after, some_early, some_other_silence, of_ends, refusal, writing}
 use Rattle.record.specs.Answers.{gives, turns_away}
 use Rattle.writing.specs.Writing.{asked_to_write, write_answer, written, in_centimetres, in_millimetres, with_silences, columns}
-use Rattle.writing.specs.Answers.{wrote}
+use Rattle.writing.specs.Answers.{wrote, wrote_by}
 use Rattle.record.specs.declared.refusal.Refusal.TheVariants.{ShortOutput}
 
 abbrev pub a_fix : (t : ℕ) (x y : ℤ) → Fix
@@ -164,3 +164,7 @@ structs_computed = (refl, refl, refl)
 
 pub answers_computed : Computes wrote ((Ok 18, gives 18) ∷ (Err ShortOutput, turns_away 15) ∷ [])
 answers_computed = refl
+
+-- .. and of a caller whose errors are numbers, one of which no check has
+pub own_answers_computed : Computes (wrote_by (λ (k : ℕ). k)) ((Ok 18, gives 18) ∷ (Err 15, turns_away 15) ∷ (Err 77, turns_away 77) ∷ [])
+own_answers_computed = refl

@@ -6,15 +6,13 @@ mod columns;
 mod lent;
 mod list;
 
-ghost use Rattle.std.specs.Prelude.{◌≡◌, ◌≤◌, List, length};
-ghost use Rattle.std.proofs.Math.Option.{none};
+ghost use Rattle.std.specs.Prelude.{◌≡◌, ℕ, ◌≤◌, List, length, OnOk};
 ghost use Rattle.distance.specs.Fix.{Fix as Plain};
 ghost use Rattle.format.specs.Kinds.{layout};
 ghost use Rattle.format.specs.Format.{record_length};
 ghost use Rattle.record.specs.Checks.{sentence, first, fix_checks, refusal, writing};
-ghost use Rattle.record.specs.Answers.{refused};
 ghost use Rattle.writing.specs.Writing.{asked_to_write};
-ghost use Rattle.writing.specs.Answers.{wrote};
+ghost use Rattle.writing.specs.Answers.{Numbers, refused_by, wrote_by};
 ghost use Rattle.writing.specs.Laws.Writing.{Begun};
 
 pub use columns::write;
@@ -55,40 +53,45 @@ pub struct SilenceFix {
 
 // The writer's checks 3, 7, 8, 9, 20 and 15, of a list of n fixes whose pass said `scanned` and an output of so many bytes. What the pass said is asked only of a
 // list that check 3 lets pass.
-fn write_says(
+fn write_says<E: From<Refusal> + Copy>(
     kind: Kind,
     n: usize,
-    scanned: Result<(), Refusal>,
+    scanned: Result<(), E>,
     output: usize,
-) -> Result<(), Refusal>
-    ensures refusal { (l : List Plain) → length l ≡ n
-        → (1 ≤ n → n ≤ 4096 → refused scanned ≡ first (sentence (layout kind) (asked_to_write l output)) fix_checks)
-        → refused result ≡ refusal (layout kind) writing (asked_to_write l output) }
-    ensures few { refused result ≡ none → n ≤ 4096 }
-    ensures room { refused result ≡ none → record_length (layout kind) n ≤ output }
+) -> Result<(), E>
+    ensures refusal { (number : E → ℕ) → Numbers E.from_gives number
+        → (l : List Plain) → length l ≡ n
+        → (1 ≤ n → n ≤ 4096
+        → refused_by number scanned ≡ first (sentence (layout kind) (asked_to_write l output)) fix_checks)
+        → refused_by number result ≡ refusal (layout kind) writing (asked_to_write l output) }
+    ensures few { OnOk result (n ≤ 4096) }
+    ensures room { OnOk result (record_length (layout kind) n ≤ output) }
 {
     if n == 0 || 4096 < n {
-        return Err(Refusal::BadCount);
+        return Err(E::from(Refusal::BadCount));
     }
     scanned?;
     if output < record_length(kind, n as u32) as usize {
-        return Err(Refusal::ShortOutput);
+        return Err(E::from(Refusal::ShortOutput));
     }
     Ok(())
 }
 
 // How every writer begins: it makes its checks, and puts down the head of a record that was never thinned if none turns the list away. The answer is the writer's;
-// the fixes are put down after it.
-pub fn begin_record(
+// the fixes are put down after it. A caller whose pass knows faults that no check has says them by an error type of its own, and gets its own error back: what is
+// promised of an error is its number, however the caller numbers its errors, as long as a refusal among them keeps the paper's number.
+pub fn begin_record<E: From<Refusal> + Copy>(
     kind: Kind,
     n: usize,
-    scanned: Result<(), Refusal>,
+    scanned: Result<(), E>,
     out: &mut [u8],
-) -> Result<u32, Refusal>
-    ensures { (l : List Plain) → length l ≡ n
+) -> Result<u32, E>
+    ensures { (number : E → ℕ) → Numbers E.from_gives number
+        → (l : List Plain) → length l ≡ n
         → (1 ≤ n → n ≤ 4096
-        → refused scanned ≡ first (sentence (layout kind) (asked_to_write l (length out.old))) fix_checks)
-        → Begun (layout kind) l out.old (wrote result) out.new }
+        → refused_by number scanned
+        ≡ first (sentence (layout kind) (asked_to_write l (length out.old))) fix_checks)
+        → Begun (layout kind) l out.old (wrote_by number result) out.new }
 {
     write_says(kind, n, scanned, out.len())?;
     put_head(out, kind, n as u32, 65535);

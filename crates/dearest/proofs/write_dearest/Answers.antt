@@ -4,9 +4,11 @@ use Rattle.format.specs.declared.Kind.TheVariants.{Trail}
 use Rattle.format.specs.Kinds.{trail}
 use Rattle.format.specs.Format.{header_bytes}
 use Rattle.format.proofs.Laws.Kinds.{is_kind}
+use Rattle.record.specs.Answers.{number_of}
 use Rattle.record.proofs.Laws.Answers.{turned_away}
 use Rattle.writing.specs.Answers.{wrote}
 use Rattle.writing.specs.Laws.Writing.{Begun}
+use Rattle.writing.proofs.Laws.Answers.{own_numbers, wrote_plainly}
 use Rattle.writing.proofs.Laws.Writing.{begun_refused, begun_done}
 use Rattle.dearest.specs.Dearest.{dearest}
 use Rattle.dearest.proofs.Laws.Writing.{fixes_pass, length_dearest, as_the_writer, answer_as_the_writer, written_as_the_writer, dearest_fits}
@@ -17,7 +19,7 @@ use Rattle.dearest.proofs.write_dearest.Goals.{After-begin_record}
 begun : (c : After-begin_record) → Begun trail (dearest c.args.n) c.args.out.now (wrote c.begin_record.result) c.begin_record.new.out
 begun c =
     let n = c.args.n in
-    c.begin_record.ensures (dearest n) (length_dearest n) (λ one few. sym (fixes_pass n (length c.args.out.now) few))
+    rw (wrote_plainly c.begin_record.result) at (c.begin_record.ensures number_of own_numbers (dearest n) (length_dearest n) (λ one few. sym (fixes_pass n (length c.args.out.now) few)))
 
 pub put_dearest-requires : goal.put_dearest-requires
 put_dearest-requires c =

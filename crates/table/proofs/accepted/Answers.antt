@@ -2,13 +2,14 @@ use Rattle.std.proofs.Common.{◌≡◌, ◌≤◌, sym, ◌∙◌, ap, arith, r
 use Rattle.std.proofs.Math.Option.{none}
 use Rattle.record.specs.Checks.{some_bad_row}
 use Rattle.table.specs.Answers.{table_of}
+use Rattle.table.specs.declared.Table.{Table}
 use Rattle.table.proofs.Laws.Checking.{no_rows_refused, long_refused, row_refused, all_accepted, count_is, taken}
 use Rattle.table.proofs.accepted.Goals as goal
 use Rattle.table.proofs.accepted.Goals.{then-count-eq0-via-then-count-eq0, then-count-eq0-via-else-count-eq0+then-count-gt32}
 
 pub returns-then-count-eq0-clause-refusal : goal.returns-then-count-eq0-clause-refusal
 returns-then-count-eq0-clause-refusal c =
-    let t = c.args.t.now in
+    let t : Table = record { count = c.args.count; rows = c.args.rows.now } in
     let n = count_is t in
     elim c.then-count-eq0.branch [
       | then-count-eq0-via-then-count-eq0 w ↦ sym (no_rows_refused (table_of t) (n ∙ w.if-count-eq0.true))
@@ -17,7 +18,7 @@ returns-then-count-eq0-clause-refusal c =
 
 pub returns-then-some_bad_row-clause-refusal : goal.returns-then-some_bad_row-clause-refusal
 returns-then-some_bad_row-clause-refusal c =
-    let t = c.args.t.now in
+    let t : Table = record { count = c.args.count; rows = c.args.rows.now } in
     let n = count_is t in
     let room : length t.rows ≡ 32 = search rules in
     let few : t.count ≤ length t.rows = omega arith in
@@ -25,7 +26,7 @@ returns-then-some_bad_row-clause-refusal c =
 
 pub returns-clause-refusal : goal.returns-clause-refusal
 returns-clause-refusal c =
-    let t = c.args.t.now in
+    let t : Table = record { count = c.args.count; rows = c.args.rows.now } in
     let n = count_is t in
     let room : length t.rows ≡ 32 = search rules in
     let few : t.count ≤ length t.rows = omega arith in
@@ -33,6 +34,6 @@ returns-clause-refusal c =
 
 pub returns-clause-rows : goal.returns-clause-rows
 returns-clause-rows c =
-    let t = c.args.t.now in
+    let t : Table = record { count = c.args.count; rows = c.args.rows.now } in
     let room : length t.rows ≡ 32 = search rules in
     taken t.rows t.count (omega arith)

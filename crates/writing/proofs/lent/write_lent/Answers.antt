@@ -2,9 +2,11 @@ use Rattle.std.proofs.Common.{◌≡◌, sym, ◌∙◌, length, ℕ}
 use Rattle.format.specs.Kinds.{layout}
 use Rattle.format.specs.Format.{each}
 use Rattle.format.proofs.Laws.Each.{length_each}
+use Rattle.record.specs.Answers.{number_of}
 use Rattle.record.proofs.Laws.Answers.{turned_away}
 use Rattle.writing.specs.Answers.{wrote}
 use Rattle.writing.specs.Laws.Writing.{Begun}
+use Rattle.writing.proofs.Laws.Answers.{own_numbers, refused_plainly, wrote_plainly}
 use Rattle.writing.proofs.Laws.Lent.{puttable, writes_lent, writes_refused}
 use Rattle.writing.proofs.lent.write_lent.Goals as goal
 use Rattle.writing.proofs.lent.write_lent.Given.{Over}
@@ -14,7 +16,7 @@ use Rattle.writing.proofs.lent.write_lent.Goals.{After-begin_record}
 begun : (g : Over) (c : After-begin_record g) → Begun (layout (g.L.Lent.kind c.args.lent)) (each (g.L.Lent.fix c.args.lent) 0 (g.L.Lent.count c.args.lent)) c.args.out.now (wrote c.begin_record.result) c.begin_record.new.out
 begun g c =
     let n : length (each (g.L.Lent.fix c.args.lent) 0 (g.L.Lent.count c.args.lent)) ≡ c.count.result = length_each _ 0 _ ∙ sym c.count.ensures in
-    rw c.kind.ensures at (c.begin_record.ensures _ n (λ one few. rw c.kind.ensures (c.scan.ensures.says _ (rw (← c.count.ensures) one))))
+    rw (c.kind.ensures, wrote_plainly c.begin_record.result) at (c.begin_record.ensures number_of own_numbers _ n (λ one few. refused_plainly c.scan.result ∙ rw c.kind.ensures (c.scan.ensures.says _ (rw (← c.count.ensures) one))))
 
 pub put-requires : goal.put-requires
 put-requires g c =
