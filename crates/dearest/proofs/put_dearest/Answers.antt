@@ -10,22 +10,26 @@ use Rattle.dearest.proofs.Laws.Fixes.{bounded}
 use Rattle.dearest.proofs.put_dearest.Goals as goal
 
 pub loop-i-init : goal.loop-i-init
-loop-i-init c = none_put _ _ _ _
+loop-i-init c = record { ends = c.record_length-at.ensures; put = none_put _ _ _ _ }
 
 pub put_fix-requires : goal.put_fix-requires
 put_fix-requires c =
     let at = c.loop-i in
     let inside : Bounded 16000 (fix_of c.dearest_fix.result) = rw c.dearest_fix.ensures (bounded c.args.n at.i (omega arith) c.requires.0) in (
-      rw c.record_length-at.ensures (next_fits trail (dearest_fix c.args.n) c.args.n c.args.out.now at.invariant (omega arith) c.requires.1),
+      rw at.invariant.ends (next_fits trail (dearest_fix c.args.n) c.args.n c.args.out.now at.invariant.put (omega arith) c.requires.1),
       bounded_in_bytes trail (is_kind Trail) _ inside.x_low inside.x_high,
       bounded_in_bytes trail (is_kind Trail) _ inside.y_low inside.y_high,
     )
 
+pub overflow_add-at : goal.overflow_add-at
+overflow_add-at c = omega (arith, c.loop-i.invariant.ends, c.loop-i.invariant.put.upto, c.requires.0, c.size_of.ensures)
+
 pub loop-i-preserved : goal.loop-i-preserved
 loop-i-preserved c =
-    let at = c.loop-i in
-    let where-is = c.record_length-at.ensures in
-    next_put _ _ _ _ at.invariant (is_kind Trail) (omega arith) _ c.dearest_fix.ensures _ (rw where-is at c.put_fix.ensures)
+    let at = c.loop-i in record {
+      ends = omega (arith, at.invariant.ends, c.size_of.ensures);
+      put = next_put _ _ _ _ at.invariant.put (is_kind Trail) (omega arith) _ c.dearest_fix.ensures _ (rw at.invariant.ends at c.put_fix.ensures);
+    }
 
 pub returns : goal.returns
-returns c = all_put _ _ _ _ c.loop-i.invariant (omega arith)
+returns c = all_put _ _ _ _ c.loop-i.invariant.put (omega arith)
