@@ -16,8 +16,9 @@ use format::{count_at, mark_at};
 use reading::{Reader, read, said};
 use record::Refusal;
 
-// The digits of a number from a position on, and where they end: those before the last, by itself, and then the last. No method of the listing, so that
-// the position goes from digit to digit by value: kept in the listing, it would be stored and read again for each, and a listing took half as long again.
+// The digits of a number from a position on, and where they end: those before the last, by itself, and then the last. No
+// method of the listing, so that the position goes from digit to digit by value: kept in the listing, it would be stored
+// and read again for each, and a listing would take up to half as long again.
 fn put_digits(out: &mut [u8], at: usize, n: u32) -> usize
     requires { at + length (decimal n) ≤ length out.old }
     ensures { Stored out.old at out.new result (decimal n) }

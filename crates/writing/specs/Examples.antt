@@ -166,5 +166,6 @@ pub answers_computed : Computes wrote ((Ok 18, gives 18) ∷ (Err ShortOutput, t
 answers_computed = refl
 
 -- .. and of a caller whose errors are numbers, one of which no check has
-pub own_answers_computed : Computes (wrote_by (λ (k : ℕ). k)) ((Ok 18, gives 18) ∷ (Err 15, turns_away 15) ∷ (Err 77, turns_away 77) ∷ [])
+pub own_answers_computed :
+    Computes (wrote_by (λ (k : ℕ). k)) ((Ok 18, gives 18) ∷ (Err 15, turns_away 15) ∷ (Err 77, turns_away 77) ∷ [])
 own_answers_computed = refl

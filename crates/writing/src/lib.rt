@@ -78,8 +78,9 @@ fn write_says<E: From<Refusal> + Copy>(
 }
 
 // How every writer begins: it makes its checks, and puts down the head of a record that was never thinned if none turns the list away. The answer is the writer's;
-// the fixes are put down after it. A caller whose pass knows faults that no check has says them by an error type of its own, and gets its own error back: what is
-// promised of an error is its number, however the caller numbers its errors, as long as a refusal among them keeps the paper's number.
+// the fixes are put down after it. A caller whose pass knows faults that no check has says them by an error type of its
+// own, and gets its own error back: what is promised of an error is its number, however the caller numbers its errors, as
+// long as a refusal among them keeps the paper's number.
 pub fn begin_record<E: From<Refusal> + Copy>(
     kind: Kind,
     n: usize,

@@ -1,25 +1,21 @@
 -- A caller's errors by their numbers: what a call hands on with `?`, and that refusals alone have the paper's numbers.
 use Rattle.std.specs.Prelude.{◌≡◌, ℕ, Result, Ok, Err, IsErrAnd}
 use Rattle.std.proofs.Common.{refl, ap}
-use Rattle.std.proofs.Math.Option.{some}
 use Rattle.record.specs.declared.refusal.Refusal.{Refusal}
-use Rattle.record.specs.Answers.{refused, number_of, turns_away}
+use Rattle.record.specs.Answers.{refused, number_of}
 use Rattle.writing.specs.Answers.{wrote, Numbers, refused_by, wrote_by}
 
 -- the error that was handed on is the one that was met
-pub passed_on_by : {A E : Type 0} (number : E → ℕ) (r : Result A E) (e : E) → IsErrAnd r (λ f. f ≡ e) → refused_by number r ≡ some (number e)
-passed_on_by number (Ok a) e h = absurd h
-passed_on_by number (Err f) e h = ap (λ x. some (number x)) h
-
-pub turned_away_by : {E : Type 0} (number : E → ℕ) (r : Result ℕ E) (e : E) → IsErrAnd r (λ f. f ≡ e) → wrote_by number r ≡ turns_away (number e)
-turned_away_by number (Ok a) e h = absurd h
-turned_away_by number (Err f) e h = ap (λ x. turns_away (number x)) h
+pub handed_on : {A E : Type 0} (r : Result A E) (e : E) → IsErrAnd r (λ f. f ≡ e) → r ≡ Err e
+handed_on (Ok a) e h = absurd h
+handed_on (Err f) e h = ap Err h
 
 -- a refusal that is taken up as it is keeps its number
 pub own_numbers : Numbers (λ (r e : Refusal). e ≡ r) number_of
 own_numbers r e h = ap number_of h
 
--- by the paper's numbers the number of a refusal is the record's `refused`, and the answer is `wrote`: so at refusals the clause of `begin_record` speaks of these
+-- by the paper's numbers the number of a refusal is the record's `refused`, and the answer is `wrote`: so at refusals the
+-- clause of `begin_record` speaks of these
 pub refused_plainly : {A : Type 0} (r : Result A Refusal) → refused_by number_of r ≡ refused r
 refused_plainly (Ok a) = refl
 refused_plainly (Err e) = refl

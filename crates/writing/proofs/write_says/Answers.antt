@@ -5,7 +5,7 @@ use Rattle.format.specs.Kinds.{layout}
 use Rattle.format.specs.Format.{record_length}
 use Rattle.record.proofs.Laws.Head.{positive}
 use Rattle.writing.specs.Answers.{refused_by}
-use Rattle.writing.proofs.Laws.Answers.{passed_on_by}
+use Rattle.writing.proofs.Laws.Answers.{handed_on}
 use Rattle.writing.proofs.Laws.Writing.{writes_3_none, writes_3_many, writes_fix, writes_15, writes_none}
 use Rattle.writing.proofs.write_says.Given.{Over}
 use Rattle.writing.proofs.write_says.Goals as goal
@@ -21,7 +21,7 @@ returns-then-n-eq0-clause-refusal g c = λ number numbers l e h.
 
 pub returns-in_err-scanned-clause-refusal : goal.returns-in_err-scanned-clause-refusal
 returns-in_err-scanned-clause-refusal g c = λ number numbers l e h.
-    passed_on_by number c.from_residual.result _ c.from_residual.ensures.1
+    ap (refused_by number) (handed_on c.from_residual.result _ c.from_residual.ensures.1)
     ∙ sym (writes_fix _ l c.args.output (λ z. c.if-n-eq0.false (sym e ∙ z)) (omega (arith, e)) _ (sym (h (positive _ c.if-n-eq0.false) (omega arith)) ∙ ap (refused_by number) c.in_err-scanned.was))
 
 -- the length that the code compares the output with
